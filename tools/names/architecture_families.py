@@ -211,27 +211,21 @@ def module(it):
 
 
 def antt_lists(table):
-    first = [f"(architecture.{of.variant} spec.{of.word}.{members[0].variant})"
-             for of, members in table.members.items()]
     contracts = {it.word: f"contracts.{module(it)}.{it.variant}Architecture" for it in table.families}
-    answers = lambda value: [line for word, of in contracts.items() for line in (
-        f"pub returns-clause-{word} : goal.returns-clause-{word}",
-        f"returns-clause-{word} c = {value.format(of)}", "")][:-1]
     return {
         "families of triples": map(variants, table.families),
         "families that answer by their members": [
             variants(it).removeprefix("pub ") for it in table.families
             if it.variant in {*WITH_QUERIES, *families_with(table, "order", "width")}],
-        "each family reads back": [f"architecture_of-name {it} = refl" for it in first],
-        "each family is short": [f"returns-clause-architecture c {it} = leb-true _ _ refl" for it in first],
         "the law of names of each family": [
             f"{it.word} = part-read_back architecture.{it.variant} spec.as_{it.word} (λ _. refl);"
             for it in table.families],
         "equality of each family": [f"bare_field-Decides {it}.the_type tt," for it in contracts.values()],
-        "answers about the equality of families": answers("bare-Decides {}.the_type tt"),
-        "hashes of each family": [f"one_field variants.{it.variant} (returns-clause-{it.word} c),"
-                                  for it in table.families],
-        "answers about the hashes of families": answers("bare_hash_injective {}.enum tt (omega arith)"),
+        "hashes of each family": [
+            f"one_field variants.{it.variant} (bare_hash_injective {contracts[it.word]}.enum tt (omega arith)),"
+            for it in table.families],
+        "answers about the hashes of families": [
+            f"{word} = bare_hash_injective {of}.enum tt (omega arith);" for word, of in contracts.items()],
     }
 
 

@@ -216,13 +216,8 @@ IN_CODE = {
 
 
 def code(table, standing):
-    """The lists of rules in the code, and the answers to the goals of their arms. `standing` has the text of each list
-    as it stands."""
-    lists = {name: write(Code(table, standing.get(name, ""))) for name, write in IN_CODE.items()}
-    # The kit names the goal of an arm that has an answer by its first variant.
-    goals = lambda name: re.findall(r"(?:^|[,{}]\s)\s*\w+::(\w+)[^=,{}]*=>\s(?!match)", "\n".join(lists[name]))
-    return lists | {"each arm of the formats": answers(goals("the formats of systems"), "implied_format"),
-                    "each arm of the conventions": answers(goals("the conventions of systems"), "convention_on")}
+    """The lists of rules in the code. `standing` has the text of each list as it stands."""
+    return {name: write(Code(table, standing.get(name, ""))) for name, write in IN_CODE.items()}
 
 
 def answers(goals, unfolded):
@@ -322,8 +317,6 @@ IN_DEFINITIONS = {
     "has_ilp32": rule_lines("has_ilp32", "operating_system", "model_32", {"ILP32": "true"}),
     "is_bare_arm": lambda of: [f"is_bare_arm {it} = true" for it in of.members("Arm", "vendor", "omitted")],
     "omits_unknown_vendor": vendor_lines,
-    "each architecture that omits an unknown system": lambda of: of.lines(
-        "alone-shows {} is = (refl, refl)", "architecture", "system", OMITTED),
     "omits_system": rule_lines("omits_system", "architecture", "system", OMITTED),
     "is_hermit_or_linux_kernel": rule_lines("is_hermit_or_linux_kernel", "environment", "vendor", SHOWN),
     "environment_implies_format": rule_lines("environment_implies_format", "environment", "implied", OMITTED),

@@ -21,9 +21,9 @@ pub use Rattle.lexicon_fields.specs.{Environment.environment_name, FixedRow.has_
 pub use Rattle.lexicon_fields.specs.{FixedRow.row_text, Names.Pair, Names.dash, Names.is_dash_free, Names.named_values}
 pub use Rattle.lexicon_fields.specs.{Private.name_values, Private.prefix_key_of, Put.Puts, Version.dot}
 pub use Rattle.lexicon_fields.specs.{Version.version_name, declared.deployment_target.DeploymentTarget.DeploymentTarget}
-pub use Rattle.lexicon_fields.specs.{declared.known_vendor.KnownVendor.KnownVendor}
+pub use Rattle.lexicon_fields.specs.{Version.version_of, declared.known_vendor.KnownVendor.KnownVendor}
 pub use Rattle.lexicon_fields.specs.{declared.operating_system.OperatingSystem.OperatingSystem}
 unfoldable pub use Rattle.lexicon_fields.specs.OperatingSystem.{fixed_operating_system_of, operating_system_of}
 unfoldable pub use Rattle.lexicon_fields.specs.{Architecture.architecture_of, BinaryFormat.binary_format_of}
 unfoldable pub use Rattle.lexicon_fields.specs.{Environment.environment_of, FixedRow.row_texts, Vendor.known_vendor_of}
-unfoldable pub use Rattle.lexicon_fields.specs.{Vendor.vendor_of, Version.version_of}
+unfoldable pub use Rattle.lexicon_fields.specs.{Vendor.vendor_of}

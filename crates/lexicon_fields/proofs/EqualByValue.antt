@@ -1,11 +1,10 @@
 -- `==` is true exactly for the same values.
-use Rattle.lexicon_fields.proofs.Common.{◌&&◌, ◌∙◌, ◌∷◌, ◌≡◌, Bool, List, None, Option, Some, [], ap, false, inl, inr}
-use Rattle.lexicon_fields.proofs.Common.{refl, rules, sym, true, and_parts, false≢true, Decides, Record}
-use Rattle.lexicon_fields.proofs.Common.{DeploymentTarget}
-use Rattle.std.specs.{Cmp.Derive.of_values, Option.option_eq}
+use Rattle.lexicon_fields.proofs.Common.{Bool, List, [], ap, inl, inr, refl, true, ◌&&◌, ◌∷◌, ◌≡◌}
+use Rattle.lexicon_fields.proofs.Common.{Decides, DeploymentTarget, Option, Record, and_parts, false, false≢true, rules}
 use Rattle.std.proofs.lemmas.Bool.Decides.{Decides-like}
-use denote.{Struct.Field.Field, Struct.Values.Values, Enum.Declared.Declared, Enum.Declared.Choice, Enum.Compared.Each}
-use denote.{Enum.Compared.by, Enum.Bare.Bare, Enum.Bare.sameb, Enum.Bare.same_true, Enum.Bare.true_same}
+use Rattle.std.specs.{Cmp.Derive.of_values, Option.option_eq}
+use denote.{Enum.Bare.Bare, Enum.Bare.sameb, Enum.Bare.true_same, Enum.Compared.Each, Enum.Compared.by}
+use denote.{Enum.Bare.same_true, Enum.Declared.Choice, Enum.Declared.Declared, Struct.Field.Field, Struct.Values.Values}
 use Rattle.lexicon_fields.specs.contracts.deployment_target.DeploymentTargetPartialEq.TheImpl as version
 
 -- variants without fields are equal by their indices
@@ -15,10 +14,7 @@ bare-Decides D bare a b = (λ same. same_true D bare a b same, λ same. true_sam
 -- two options are the same if both are `None`, or both have the same value
 pub option_eq-Decides : {V : Type 0} (eq : V → V → Bool) → ((a b : V) → Decides (eq a b) (a ≡ b))
     → (a b : Option V) → Decides (option_eq eq a b) (a ≡ b)
-option_eq-Decides eq decides None None = (λ _. refl, λ _. refl)
-option_eq-Decides eq decides (Some a) (Some b) =
-    Decides-like (eq a b) (λ same. ap Some same) (λ same. let inner : a ≡ b = cc in inner) (decides a b)
-option_eq-Decides eq decides _ _ = (λ same. absurd cc, λ same. absurd cc)
+option_eq-Decides eq decides a b = search rules
 
 -- versions are equal by their numbers
 pub version-Decides : (a b : DeploymentTarget) → Decides (version.ghosts.eq a b) (a ≡ b)
@@ -38,8 +34,7 @@ are_bare_equal ((F ∷ Fs) ∷ Fss) each = are_bare_equal Fss each.1
 
 pub one_field-Decides : {V : Type 0} (eq : V → V → Bool) → ((a b : V) → Decides (eq a b) (a ≡ b)) → (x y : V × Unit {0})
     → Decides (eq x.0 y.0) (x ≡ y)
-one_field-Decides {V} eq decides x y =
-    Decides-like _ (λ same. ap (λ (v : V). (v, tt)) same) (λ same. ap (λ fields. fields.0) same) (decides x.0 y.0)
+one_field-Decides eq decides x y = search rules
 
 pub bare_field-Decides : (D : Declared) → Bare D.parts → (x y : D.D × Unit {0}) → Decides (sameb D x.0 y.0) (x ≡ y)
 bare_field-Decides D bare = one_field-Decides _ (bare-Decides D bare)
@@ -62,6 +57,4 @@ choices-Decide (Fs ∷ Fss) each bare decide _ _ = (λ same. absurd (false≢tru
 pub enum-Decides : (N : Record) (each : Each Bool N.parts) → are_bare_equal N.parts each ≡ true
     → EachDecides N.parts each
     → (x y : N.D) → Decides (of_values N false false each x y) (x ≡ y)
-enum-Decides N each bare decide x y =
-    Decides-like _ (λ same. sym (N.eta x) ∙ ap N.make same ∙ N.eta y) (λ same. ap N.as_values same)
-    (choices-Decide N.parts each bare decide (N.as_values x) (N.as_values y))
+enum-Decides N each bare decide x y = search (rules, Decides-like, choices-Decide)

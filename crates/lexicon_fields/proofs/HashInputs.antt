@@ -1,11 +1,11 @@
 -- Different values feed a hasher differently.
-use Rattle.lexicon_fields.proofs.Common.{◌++◌, ◌<◌, ◌^◌, ◌∙◌, ◌∷◌, ◌≡◌, ◌≤◌, List, [], ap, arith, length, refl, sym, ℕ}
-use Rattle.lexicon_fields.proofs.Common.{HashWrites, usize, Record, tag_of, HashInjectiveOn}
-use Rattle.std.specs.{Hash.le_bytes, Int.w16, Int.from_le_bytes}
-use Rattle.std.proofs.{lemmas.List.append_cancel_left, lemmas.Nat.from_le_bytes-to_le_bytes_2}
-use Rattle.lexicon_fields.specs.Laws.{HashInjective}
+use Rattle.lexicon_fields.proofs.Common.{HashInjectiveOn, HashWrites, List, Record, length, rules, tag_of, usize, ◌++◌}
+use Rattle.lexicon_fields.proofs.Common.{[], ap, refl, sym, ℕ, ◌<◌, ◌^◌, ◌∙◌, ◌∷◌, ◌≡◌, ◌≤◌}
 use Rattle.lexicon_fields.proofs.Variants.{EachPair, variants_pair}
-use denote.{Enum.Enum.tag_below, Enum.Bare.Bare, Enum.Bare.tag_one, Enum.Declared.declared, Enum.Declared.rowss}
+use Rattle.lexicon_fields.specs.Laws.{HashInjective}
+use Rattle.std.proofs.lemmas.List.{append_cancel_left}
+use Rattle.std.specs.Hash.{le_bytes}
+use denote.{Enum.Bare.Bare, Enum.Bare.tag_one, Enum.Declared.declared, Enum.Declared.rowss}
 
 -- the first byte that is fed
 abbrev pub first_byte : HashWrites → ℕ
@@ -43,11 +43,7 @@ module _ (N : Record) (feed : N.D → HashWrites) (few : length (rowss N.parts) 
   pub same_tag : (x y : N.D) (a b : HashWrites) → feed x ++ a ≡ feed y ++ b
       → tag_of (declared N) x ≡ tag_of (declared N) y
   unfolding le_bytes
-  same_tag x y a b same =
-      let firsts = ap first_byte (ap (λ fed. fed ++ a) (sym (placed x)) ∙ same ∙ ap (λ fed. fed ++ b) (placed y)) in
-      let below_x = tag_below (rowss N.parts) ((declared N).to x) in
-      let below_y = tag_below (rowss N.parts) ((declared N).to y) in
-      omega arith
+  same_tag x y a b same = search rules
 
   pub variants_distinguish : {W : Type 0} (IsOfKind : N.D → Type 0) (value : N.D → W)
       → EachPair N.parts (λ c d. Distinguishes IsOfKind value (λ x. writes_after_first (feed x)) (N.make c) (N.make d))
@@ -77,11 +73,9 @@ pub one_field : {V W U : Type 0} {IsOfKind : V → Type 0} {value : V → W} {fe
     → HashInjectiveOn IsOfKind value feed
     → (x y : V × Unit {0}) (a b : HashWrites) → IsOfKind x.0 → IsOfKind y.0 → feed x.0 ++ a ≡ feed y.0 ++ b
     → (whole (value x.0) ≡ whole (value y.0)) × (a ≡ b)
-one_field whole distinguishes x y a b hx hy same = let field = distinguishes.with_more x.0 y.0 a b hx hy same in
-    (ap whole field.0, field.1)
+one_field whole distinguishes x y a b hx hy same = search rules
 
 -- numbers of two bytes
 pub same_u16 : (m n : ℕ) → m < 2 ^ 16 → n < 2 ^ 16 → le_bytes 2 m ≡ le_bytes 2 n → m ≡ n
 unfolding le_bytes
-same_u16 m n hm hn same = sym (from_le_bytes-to_le_bytes_2 m hm) ∙ ap (from_le_bytes w16) same
-    ∙ from_le_bytes-to_le_bytes_2 n hn
+same_u16 m n hm hn same = search rules

@@ -1,30 +1,22 @@
 -- Names of the types whose values are listed: each parses back, and each string that parses is that of a row.
-use Rattle.lexicon_fields.proofs.Common.{◌∙◌, ◌≡◌, List, None, Option, Some, ap, option_and_then, refl, true, ℕ}
-use Rattle.lexicon_fields.proofs.Common.{architecture_name, architecture_of, binary_format_name, binary_format_of}
-use Rattle.lexicon_fields.proofs.Common.{environment_name, environment_of, row_texts, named_values}
-use Rattle.lexicon_fields.specs.{declared.architecture.Architecture.Architecture}
-use Rattle.lexicon_fields.specs.{declared.environment.Environment.Environment}
-use Rattle.lexicon_fields.specs.{declared.binary_format.BinaryFormat.BinaryFormat, Laws.NamesReadBack}
-use Rattle.lexicon_fields.specs.{Architecture.architecture_texts, Environment.environment_values}
-use Rattle.lexicon_fields.specs.{BinaryFormat.binary_format_values}
-use Rattle.lexicon_fields.proofs.LookUpLemmas.{value_named-passes, of_kind-read_back}
+use Rattle.lexicon_fields.proofs.Common.{List, None, Option, Some, ap, refl, rules, true, ℕ}
+use Rattle.lexicon_fields.proofs.Common.{architecture_name, binary_format_name, binary_format_of, environment_name, ◌∙◌}
+use Rattle.lexicon_fields.proofs.Common.{architecture_of, environment_of, named_values, option_and_then, row_texts, ◌≡◌}
+use Rattle.lexicon_fields.proofs.LookUpLemmas.{of_kind-read_back, value_named-passes}
 use Rattle.lexicon_fields.proofs.RowTexts.{is_row_text, row_text-dash_free}
-use Rattle.lexicon_fields.specs.declared.architecture.Architecture.TheVariants as architecture
-use Rattle.lexicon_fields.specs.SubArchitecture as spec
-use Rattle.lexicon_fields.specs.declared.environment.Environment.TheVariants as environment
-use Rattle.lexicon_fields.specs.declared.binary_format.BinaryFormat.TheVariants as binary_format
+use Rattle.lexicon_fields.specs.Laws.{NamesReadBack}
+use Rattle.lexicon_fields.specs.{Architecture.architecture_texts, declared.architecture.Architecture.Architecture}
+use Rattle.lexicon_fields.specs.{BinaryFormat.binary_format_values, declared.binary_format.BinaryFormat.BinaryFormat}
+use Rattle.lexicon_fields.specs.{Environment.environment_values, declared.environment.Environment.Environment}
 
 -- names parse back if each parses as its value and each string that parses is that of a row
 pub each-read_back : {V : Type 0} (name : V → List ℕ) (find : List ℕ → Option V) → ((v : V) → find (name v) ≡ Some v)
     → ((text : List ℕ) (v : V) → find text ≡ Some v → is_row_text text ≡ true) → NamesReadBack name find
-each-read_back {V} name find reads row =
-    of_kind-read_back (λ (v : V). Unit {0}) name find (λ v _. reads v)
-    (λ text v found. row_text-dash_free text (row text v found))
+each-read_back name find reads row = search (rules, of_kind-read_back, row_text-dash_free)
 
 pub environment_of-name : (v : Environment) → environment_of (environment_name v) ≡ Some v
 unfolding environment_of
-environment_of-name environment.Unknown = refl
-environment_of-name _ = refl
+environment_of-name v = search rules
 
 pub environment_of-row : (text : List ℕ) (v : Environment) → environment_of text ≡ Some v → is_row_text text ≡ true
 unfolding environment_of is_row_text row_texts
@@ -33,8 +25,7 @@ environment_of-row text v found =
 
 pub binary_format_of-name : (v : BinaryFormat) → binary_format_of (binary_format_name v) ≡ Some v
 unfolding binary_format_of
-binary_format_of-name binary_format.Unknown = refl
-binary_format_of-name _ = refl
+binary_format_of-name v = search rules
 
 pub binary_format_of-row : (text : List ℕ) (v : BinaryFormat) → binary_format_of text ≡ Some v → is_row_text text ≡ true
 unfolding binary_format_of is_row_text row_texts
@@ -43,18 +34,7 @@ binary_format_of-row text v found =
 
 pub architecture_of-name : (a : Architecture) → architecture_of (architecture_name a) ≡ Some a
 unfolding architecture_of
--- written by tools/names/write: each family reads back
-architecture_of-name (architecture.Arm spec.arm.Arm) = refl
-architecture_of-name (architecture.Aarch64 spec.aarch64.Aarch64) = refl
-architecture_of-name (architecture.X86_32 spec.x86_32.I386) = refl
-architecture_of-name (architecture.Mips32 spec.mips32.Mips) = refl
-architecture_of-name (architecture.Mips64 spec.mips64.Mips64) = refl
-architecture_of-name (architecture.Riscv32 spec.riscv32.Riscv32) = refl
-architecture_of-name (architecture.Riscv64 spec.riscv64.Riscv64) = refl
-architecture_of-name (architecture.Clever spec.clever.Clever) = refl
-architecture_of-name (architecture.Z80 spec.z80.Z80) = refl
--- end of what is written
-architecture_of-name _ = refl
+architecture_of-name a = search rules
 
 pub architecture_of-row : (text : List ℕ) (a : Architecture) → architecture_of text ≡ Some a → is_row_text text ≡ true
 unfolding architecture_of is_row_text row_texts

@@ -1,24 +1,20 @@
 -- Strings that parse as a system: they have no dash, the system's version is in range, and its name is at most 4 bytes
 -- longer.
-use Rattle.lexicon_fields.proofs.Common
-use Common.{◌&&◌, ◌++◌, ◌+◌, ◌<◌, ◌^◌, ◌∙◌, ◌∷◌, ◌≡◌, ◌≤◌, Bool, IfSome, List, Option, Some, [], ap, arith, cond}
-use Common.{drop, false, is_none, length, nat_eq, nat_le, option_and_then, refl, rules, subst, sym, take, true, ℕ}
-use Common.{and_parts, leb-true, ltb-true, length-append, MatchOption-at_some, cond_some, bytes_eq-Decides, decimal}
-use Common.{list_all, HasVersionInRange, IsVersionInRange, Pair, dash, is_dash_free, named_values, darwin_like_system}
-use Common.{darwin_prefixes, fixed_operating_system_of, operating_system_name, operating_system_of, optional_version_of}
-use Common.{version_suffix, dot, version_name, version_of, DeploymentTarget, OperatingSystem}
-use Rattle.std.specs.{Char.is_ascii_digit, List.join_with_byte, List.starts_with, Str.Parse.digits_value}
-use Rattle.std.specs.{Str.Parse.without_leading_plus}
-use Rattle.std.proofs.{lemmas.Bool.eqb-true, lemmas.Bool.not-true, lemmas.Fmt.length-decimal-le}
-use Rattle.std.proofs.{lemmas.List.length-drop, lemmas.List.take-append-drop, lemmas.List.Folds.list_any-append}
-use Rattle.std.proofs.{lemmas.List.Splits.join_with_byte-slice_split, lemmas.Option.same_Some}
-use Rattle.std.proofs.{lemmas.Str.Parse.digits_value_short}
-use Rattle.lexicon_fields.specs.Version.{piece_number_within, version_of_numbers, version_of_pieces, pieces_of}
-use Rattle.lexicon_fields.specs.OperatingSystem.{fixed_operating_systems, text_after_prefix, system_with_version}
-use Rattle.lexicon_fields.specs.OperatingSystem.{system_version}
-use Rattle.lexicon_fields.proofs.LookUpLemmas.{value_named-all, holds-if_read, option_map-holds, option_and_then-holds}
-use Rattle.lexicon_fields.proofs.LookUpLemmas.{option_or-holds, none_is, all-dash_free}
-use Rattle.lexicon_fields.proofs.VersionsReadBack.{digits_model}
+use Rattle.lexicon_fields.proofs.Common.{Bool, List, Option, Pair, Some, arith, length, nat_eq, nat_le, rules, subst, ℕ}
+use Rattle.lexicon_fields.proofs.Common.{DeploymentTarget, MatchOption-at_some, darwin_like_system, operating_system_of}
+use Rattle.lexicon_fields.proofs.Common.{HasVersionInRange, IfSome, IsVersionInRange, OperatingSystem, bytes_eq-Decides}
+use Rattle.lexicon_fields.proofs.Common.{and_parts, cond_some, leb-true, list_all, ltb-true, version_name, version_of}
+use Rattle.lexicon_fields.proofs.Common.{darwin_prefixes, is_dash_free, length-append, option_and_then, version_suffix}
+use Rattle.lexicon_fields.proofs.Common.{decimal, fixed_operating_system_of, operating_system_name, optional_version_of}
+use Rattle.lexicon_fields.proofs.Common.{◌++◌, ◌+◌, ◌<◌, ◌^◌, ◌∷◌, ◌≡◌, ◌≤◌, [], cond, dash, dot, drop, refl, sym, true}
+use Rattle.lexicon_fields.proofs.LookUpLemmas.{holds-if_read, option_and_then-holds, option_map-holds, option_or-holds}
+use Rattle.lexicon_fields.proofs.{Common.ap, LookUpLemmas.all-dash_free, VersionsReadBack.digits_model}
+use Rattle.lexicon_fields.specs.OperatingSystem.{system_version, system_with_version, text_after_prefix}
+use Rattle.lexicon_fields.specs.Version.{piece_number_within, pieces_of, version_of_numbers, version_of_pieces}
+use Rattle.std.proofs.{lemmas.Bool.eqb-true, lemmas.Bool.not-true, lemmas.Grind.common_steps, lemmas.List.length-drop}
+use Rattle.std.proofs.{lemmas.Fmt.length-decimal-le, lemmas.List.Folds.list_any-append, lemmas.List.take-append-drop}
+use Rattle.std.proofs.{lemmas.List.Splits.join_with_byte-slice_split, lemmas.Str.Parse.digits_value_short}
+use Rattle.std.specs.{Char.is_ascii_digit, List.join_with_byte, Str.Parse.digits_value, Str.Parse.without_leading_plus}
 
 is_dash_free-append : (s t : List ℕ) → is_dash_free s ≡ true → is_dash_free t ≡ true → is_dash_free (s ++ t) ≡ true
 is_dash_free-append s t first second = rw (list_any-append (λ b. nat_eq b dash) s t, not-true _ first) second
@@ -26,13 +22,11 @@ is_dash_free-append s t first second = rw (list_any-append (λ b. nat_eq b dash)
 -- digits, with or without a leading plus
 digits_after_plus : (plus : Bool) (c : ℕ) (cs : List ℕ) → nat_eq c 43 ≡ plus
     → list_all is_ascii_digit (drop (cond plus 1 0) (c ∷ cs)) ≡ true → is_dash_free (c ∷ cs) ≡ true
-digits_after_plus true c cs is digits = rw (eqb-true c 43 is) (all-dash_free is_ascii_digit refl cs digits)
-digits_after_plus false c cs is digits = all-dash_free is_ascii_digit refl (c ∷ cs) digits
+digits_after_plus plus c cs is digits = search (rules, eqb-true, all-dash_free)
 
 signed_digits-dash_free : (piece : List ℕ) → list_all is_ascii_digit (without_leading_plus piece) ≡ true
     → is_dash_free piece ≡ true
-signed_digits-dash_free [] digits = refl
-signed_digits-dash_free (c ∷ cs) digits = digits_after_plus (nat_eq c 43) c cs refl digits
+signed_digits-dash_free piece digits = grind (arith, common_steps, digits_after_plus)
 
 -- a piece that gives a number: the number is within the limit and has at most as many digits as the piece
 piece-read : (limit : ℕ) (piece : List ℕ) (n : ℕ) → limit ≤ 65535 → piece_number_within limit piece ≡ Some n
@@ -53,14 +47,10 @@ piece-read limit piece n small is =
 -- the numbers of a version are those of its pieces
 numbers-read : (major minor patch : Option ℕ) (v : DeploymentTarget) → version_of_numbers major minor patch ≡ Some v
     → (major ≡ Some v.major) × (minor ≡ Some v.minor) × (patch ≡ Some v.patch)
-numbers-read (Some major) (Some minor) (Some patch) v is =
-    let same = same_Some _ v is in
-    (ap (λ x. Some x.major) same, ap (λ x. Some x.minor) same, ap (λ x. Some x.patch) same)
-numbers-read _ _ _ v is = absurd cc
+numbers-read major minor patch v is = search rules
 
 missing-read : (n : ℕ) → Some 0 ≡ Some n → (n ≤ 255) × (length (decimal n) ≤ 1)
-missing-read n is = let same : 0 ≡ n = cc in
-    (omega arith, length-decimal-le 1 n (omega arith) (omega arith) (omega arith))
+missing-read n is = search (rules, length-decimal-le)
 
 version-in_range : (v : DeploymentTarget) → v.major ≤ 65535 → v.minor ≤ 255 → v.patch ≤ 255 → IsVersionInRange v
 version-in_range v major minor patch = (omega arith, omega arith, omega arith)
@@ -120,7 +110,6 @@ pieces-read (major ∷ minor ∷ patch ∷ []) v is =
 pieces-read (major ∷ minor ∷ patch ∷ more ∷ pieces) v is = absurd cc
 
 version-read : (text : List ℕ) → IfSome (version_of text) (IsVersionRead text)
-unfolding version_of
 version-read text =
     holds-if_read _ (version_of text)
     (λ v is. subst (λ (t : List ℕ). IsVersionRead t v) (join_with_byte-slice_split dot text)
@@ -135,12 +124,7 @@ suffix-read (c ∷ cs) = option_map-holds _ _ Some (version_of (c ∷ cs)) (vers
 
 -- a string is its prefix and the string after it
 text_after_prefix-read : (prefix text : List ℕ) → IfSome (text_after_prefix prefix text) (λ rest. text ≡ prefix ++ rest)
-text_after_prefix-read prefix text = holds-if_read _ (text_after_prefix prefix text) (λ rest is.
-    let begins = cond_some (starts_with nat_eq text prefix) (drop (length prefix) text) rest is in
-    let front : prefix ≡ take (length prefix) text =
-    (bytes_eq-Decides prefix (take (length prefix) text)).0 begins.0 in
-    sym (take-append-drop (length prefix) text) ∙ ap (λ xs. xs ++ drop (length prefix) text) (sym front)
-    ∙ ap (λ xs. prefix ++ xs) begins.1)
+text_after_prefix-read prefix text = search (rules, holds-if_read, cond_some, bytes_eq-Decides, take-append-drop)
 
 abbrev IsSystemRead : List ℕ → OperatingSystem → Type 0
 IsSystemRead text s =
@@ -186,14 +170,7 @@ darwin_like_system-read (row ∷ rows) text are =
 -- a system with a fixed name has no version
 fixed-read : (text : List ℕ) → IfSome (fixed_operating_system_of text) (IsSystemRead text)
 unfolding fixed_operating_system_of
-fixed-read text = holds-if_read _ (fixed_operating_system_of text) (λ s is.
-    let test =
-    value_named-all (λ pair. is_dash_free pair.0 && is_none (system_version pair.1)
-    && nat_le (length (operating_system_name pair.1)) (length pair.0))
-    (named_values operating_system_name fixed_operating_systems) text s refl is in
-    let parts = and_parts _ (nat_le (length (operating_system_name s)) (length text)) test in
-    let dash_free = and_parts (is_dash_free text) (is_none (system_version s)) parts.0 in
-    (dash_free.0, rw (none_is (system_version s) dash_free.1) tt, omega (arith, leb-true _ _ parts.1)))
+fixed-read text = search rules
 
 prefixes : ArePrefixes darwin_prefixes
 prefixes = search rules

@@ -1,10 +1,10 @@
 -- Prefix keys are ordered as their strings are.
-use Rattle.lexicon_fields.proofs.Common.{◌%◌, ◌*◌, ◌+◌, ◌-◌, ◌<◌, ◌^◌, ◌∙◌, ◌∷◌, ◌≡◌, ◌≤◌, Equal, Greater, Less, List}
-use Rattle.lexicon_fields.proofs.Common.{[], ap, arith, drop, get_or, inl, inr, length, nat_cmp, refl, suc, sym, take}
-use Rattle.lexicon_fields.proofs.Common.{w32, zero, ℕ, slice_cmp, prefix_key_of}
+use Rattle.lexicon_fields.proofs.Common.{Equal, Greater, Less, arith, get_or, length, nat_cmp, prefix_key_of, slice_cmp}
+use Rattle.lexicon_fields.proofs.Common.{List, drop, refl, rules, take, zero, ℕ, ◌%◌, ◌*◌, ◌+◌, ◌-◌, ◌<◌, ◌^◌, ◌∙◌, ◌∷◌}
+use Rattle.lexicon_fields.proofs.Common.{[], ap, inl, inr, suc, sym, w32, ◌≡◌, ◌≤◌}
+use Rattle.std.proofs.Math.Nat.{mul-le-mul_right, pow-suc}
+use Rattle.std.proofs.{lemmas.Bool.cases_order, lemmas.Cmp.nat_list_cmp_total}
 use Rattle.std.specs.{Cmp.nat_cmp_is, Int.from_be_bytes, Ordering.ordering_reverse}
-use Rattle.std.proofs.{lemmas.Bool.cases_order, lemmas.Cmp.nat_list_cmp_total, Math.Nat.mul-le-mul_right}
-use Rattle.std.proofs.{Math.Nat.pow-suc}
 
 abbrev pub AreBytes : List ℕ → Type 0
 AreBytes s = (i : ℕ) → get_or s i 0 < 256
@@ -24,12 +24,7 @@ prefix_key_below (suc k) (x ∷ xs) h =
 -- of two strings the one with the smaller first byte has the smaller key
 first_byte_decides : (k x y : ℕ) (xs ys : List ℕ) → AreBytes xs → x < y
     → prefix_key_of (suc k) (x ∷ xs) < prefix_key_of (suc k) (y ∷ ys)
-first_byte_decides k x y xs ys h less =
-    omega (
-      arith,
-      prefix_key_below k xs h,
-      mul-le-mul_right {m = x + 1} {n = y} (256 ^ k) (omega (arith, less)),
-    )
+first_byte_decides k x y xs ys h less = search (rules, prefix_key_below, mul-le-mul_right)
 
 is_less : (x y : ℕ) → x < y → nat_cmp x y ≡ Less
 is_less x y h = sym (nat_cmp_is x y Less h)
@@ -59,13 +54,7 @@ pub greater_by_key : (k : ℕ) (a b : List ℕ) → AreBytes a → AreBytes b �
 greater_by_key k a b p q h = nat_list_cmp_total.antisymm a b ∙ ap ordering_reverse (less_by_key k b a q p h)
 
 suc_cmp : (m n : ℕ) → nat_cmp m n ≡ nat_cmp (suc m) (suc n)
-suc_cmp m n = elim (cases_order m n) [
-  | inl same ↦ is_equal m n same ∙ sym (is_equal (suc m) (suc n) (omega (arith, same)))
-  | inr other ↦ elim other [
-    | inl less ↦ is_less m n less ∙ sym (is_less (suc m) (suc n) (omega (arith, less)))
-    | inr more ↦ sym (nat_cmp_is m n Greater more) ∙ nat_cmp_is (suc m) (suc n) Greater (omega (arith, more))
-  ]
-]
+suc_cmp m n = search rules
 
 -- strings with the same key begin with the same byte, and what follows it has the same key
 same_heads : (k : ℕ) (x y : ℕ) (xs ys : List ℕ) → AreBytes (x ∷ xs) → AreBytes (y ∷ ys)

@@ -1,18 +1,12 @@
 -- Strings put one after the other into a buffer.
-use Rattle.lexicon_fields.proofs.Common.{◌++◌, ◌∙◌, ◌≡◌, List, [], append_assoc, arith, refl, subst, take, ℕ}
-use Rattle.lexicon_fields.proofs.Common.{length-append, Puts}
-use Rattle.std.proofs.Math.Seq.{take-append_seam}
+use Rattle.lexicon_fields.proofs.Common.{List, Puts, [], arith, refl, take, ℕ, ◌++◌, ◌≡◌}
 use Rattle.lexicon_fields.specs.Put.{IsPut}
+use Rattle.std.proofs.{Math.Seq.take-append_seam, lemmas.Grind.common_steps}
 
 -- a second string goes after the first
 pub puts_then : {x y old mid now : List ℕ} {i j k : ℕ} → Puts x old i mid j → Puts y mid j now k
     → Puts (x ++ y) old i now k
-puts_then {x} {y} {old} {mid} {now} {i} {j} {k} p q = record {
-  end_is = omega (arith, p.end_is, q.end_is, length-append x y);
-  same_length = q.same_length ∙ p.same_length;
-  after = λ before first was. subst (λ (text : List ℕ). IsPut text first now k) (append_assoc before x y)
-      (q.after (before ++ x) first (p.after before first was));
-}
+puts_then p q = grind (arith, common_steps)
 
 -- a string that goes to the start of the buffer is all that is there
 pub puts_first : {x old now : List ℕ} {k : ℕ} → Puts x old 0 now k → IsPut x old now k

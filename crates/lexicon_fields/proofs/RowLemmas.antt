@@ -1,21 +1,19 @@
 -- The rows are exactly those of the strings that are a fixed name of some field.
 use Rattle.lexicon_fields.proofs.Common
-use Common.{◌+◌, ◌<◌, ◌↔◌, ◌∙◌, ◌≡◌, ◌≢◌, ◌≤◌, Contains, Greater, Less, List, None, Option, Ordering, Some, [], ap}
-use Common.{arith, false, inl, inr, is_none, is_some, nat_cmp, refl, sym, true, ℕ, bytes_eq-Decides, slice_cmp}
-use Common.{option_or, bytes_eq, architecture_of, binary_format_of, environment_of, has_row, row_count, row_text}
-use Common.{row_texts, named_values, darwin_like_system, darwin_prefixes, fixed_operating_system_of}
-use Common.{operating_system_name, operating_system_of, known_vendor_name, known_vendor_of, known_vendors, KnownVendor}
-use Common.{OperatingSystem}
-use Rattle.std.specs.{Cmp.Lexicographic.nat_list_eq_equiv, Ordering.is_eq}
-use Rattle.std.proofs.lemmas.Bool.{or_parts, cases_lt, cases_Bool, false_from_ne_true}
-use Rattle.std.proofs.{lemmas.List.Folds.list_any_at, lemmas.Map.Text.is_eq-slice_cmp}
-use Rattle.std.proofs.{lemmas.Map.Views.Contains-from_any, lemmas.Map.Views.list_any-from_Contains}
+use Common.{Contains, Greater, Option, Ordering, false, has_row, is_none, is_some, nat_cmp, row_text, rules}
+use Common.{KnownVendor, arith, environment_of, known_vendors, named_values, option_or, row_count, row_texts, slice_cmp}
+use Common.{Less, List, None, Some, ap, inl, inr, refl, sym, true, ℕ, ◌+◌, ◌<◌, ◌↔◌, ◌∙◌, ◌≡◌, ◌≢◌, ◌≤◌}
+use Common.{OperatingSystem, architecture_of, binary_format_of, darwin_prefixes, known_vendor_name, known_vendor_of}
+use Common.{bytes_eq-Decides, darwin_like_system, fixed_operating_system_of, operating_system_name, operating_system_of}
+use Rattle.lexicon_fields.proofs.LookUpLemmas.{none_is, option_or-none, value_named-passes}
+use Rattle.lexicon_fields.proofs.NamesReadBack.{architecture_of-row, binary_format_of-row, environment_of-row}
+use Rattle.lexicon_fields.proofs.RowTexts.{is_row_text, length-row_texts, row_text-default, row_text-passes, rows_below}
+use Rattle.lexicon_fields.proofs.{OperatingSystemsReadBack.first_system-is, RowTexts.rows_above}
 use Rattle.lexicon_fields.specs.{OperatingSystem.fixed_operating_systems, Private.first_system}
-use Rattle.lexicon_fields.proofs.LookUpLemmas.{value_named-passes, option_or-none, none_is}
-use Rattle.lexicon_fields.proofs.RowTexts.{is_row_text, rows_below, rows_above, row_text-passes, length-row_texts}
-use Rattle.lexicon_fields.proofs.RowTexts.{row_text-default}
-use Rattle.lexicon_fields.proofs.NamesReadBack.{architecture_of-row, environment_of-row, binary_format_of-row}
-use Rattle.lexicon_fields.proofs.OperatingSystemsReadBack.{first_system-is}
+use Rattle.std.proofs.lemmas.Bool.{cases_Bool, cases_lt, false_from_ne_true}
+use Rattle.std.proofs.lemmas.Map.Views.{Contains-from_any, list_any-from_Contains}
+use Rattle.std.proofs.{lemmas.List.Folds.list_any_at, lemmas.Map.Text.is_eq-slice_cmp}
+use Rattle.std.specs.{Cmp.Lexicographic.nat_list_eq_equiv, Ordering.is_eq}
 
 pub known_vendor_of-row : (text : List ℕ) (v : KnownVendor) → known_vendor_of text ≡ Some v → is_row_text text ≡ true
 unfolding known_vendor_of is_row_text row_texts
@@ -32,11 +30,7 @@ fixed_operating_system_of-row text v found =
 none_without_row : {V : Type 0} (find : List ℕ → Option V)
     → ((text : List ℕ) (v : V) → find text ≡ Some v → is_row_text text ≡ true)
     → (s : List ℕ) → is_row_text s ≡ false → find s ≡ None
-none_without_row {V} find row s none = by_reading (find s) refl
-  where
-    by_reading : (reading : Option V) → find s ≡ reading → find s ≡ None
-    by_reading None is = is
-    by_reading (Some v) is = absurd (let bad : true ≡ false = sym (row s v is) ∙ none in cc)
+none_without_row find row s none = search rules
 
 no_row : (s : List ℕ) → is_row_text s ≡ false → has_row s ≡ false
 no_row s none =
@@ -55,9 +49,7 @@ row_text-exists s found = row_text-passes has_row s refl found
 
 pub row-exists : (i : ℕ) → i < row_count → has_row (row_text i) ≡ true
 unfolding is_row_text
-row-exists i below =
-    row_text-exists (row_text i) (list_any_at (bytes_eq (row_text i)) row_texts i []
-    (omega (arith, length-row_texts)) ((bytes_eq-Decides (row_text i) (row_text i)).1 refl))
+row-exists i below = search (rules, row_text-exists, list_any_at, length-row_texts, bytes_eq-Decides)
 
 -- the row with a string
 row_text-at : (s : List ℕ) → is_row_text s ≡ true → (i : ℕ) × (i < row_count) × (row_text i ≡ s)
@@ -68,8 +60,7 @@ row_text-at s found =
     (at.0, below, sym (row_text-default at.0 s below) ∙ at.2)
 
 slice_cmp-differ : (x y : List ℕ) (o : Ordering) → is_eq o ≡ false → slice_cmp nat_cmp x y ≡ o → x ≢ y
-slice_cmp-differ x y o other is same = let bad : true ≡ false =
-    sym (is_eq-slice_cmp x y ∙ (bytes_eq-Decides x y).1 same) ∙ ap is_eq is ∙ other in cc
+slice_cmp-differ x y o other is same = search (rules, is_eq-slice_cmp, bytes_eq-Decides)
 
 -- a row that precedes a string is not the string's, nor is any earlier row
 pub no_row-below : (middle : ℕ) (s : List ℕ) → middle < row_count → slice_cmp nat_cmp (row_text middle) s ≡ Less
@@ -84,12 +75,7 @@ no_row-above middle s is k ge below = slice_cmp-differ (row_text k) s Greater re
 -- a string that is in no row before an index, nor from it on, has no row
 pub no_row-outside : (s : List ℕ) (place : ℕ) → ((k : ℕ) → k < place → row_text k ≢ s)
     → ((k : ℕ) → place ≤ k → k < row_count → row_text k ≢ s) → has_row s ≡ false
-no_row-outside s place below above = no_row s (false_from_ne_true (is_row_text s) (λ found.
-    let at = row_text-at s found in
-    elim (cases_lt at.0 place) [
-      | inl lt ↦ below at.0 lt at.2
-      | inr ge ↦ above at.0 ge at.1 at.2
-    ]))
+no_row-outside s place below above = search (rules, no_row, false_from_ne_true, is_row_text, row_text-at, cases_lt)
 
 -- the strings of the rows are all strings that have a row
 pub rows-complete : (s : List ℕ) → Contains row_texts s ↔ (has_row s ≡ true)
@@ -103,23 +89,12 @@ rows-complete s = (
 )
 
 is_some-none : {V : Type 0} (o : Option V) → is_some o ≡ false → o ≡ None
-is_some-none None h = refl
-is_some-none (Some v) h = cc
+is_some-none o h = search rules
 
 -- a string that has no row is a name of no field
 pub no_name_without_row : (s : List ℕ) → has_row s ≡ false → (architecture_of s ≡ None) × (known_vendor_of s ≡ None)
     × (fixed_operating_system_of s ≡ None) × (environment_of s ≡ None) × (binary_format_of s ≡ None)
-no_name_without_row s none =
-    let format = or_parts _ (is_some (binary_format_of s)) none in
-    let environment = or_parts _ (is_some (environment_of s)) format.0 in
-    let system = or_parts _ (is_some (fixed_operating_system_of s)) environment.0 in
-    let vendor = or_parts (is_some (architecture_of s)) (is_some (known_vendor_of s)) system.0 in (
-      is_some-none _ vendor.0,
-      is_some-none _ vendor.1,
-      is_some-none _ system.1,
-      is_some-none _ environment.1,
-      is_some-none _ format.1,
-    )
+no_name_without_row s none = search rules
 
 -- no string of a row parses as a system like Darwin
 row_text-unlike_darwin : (s : List ℕ) → is_row_text s ≡ true → is_none (darwin_like_system darwin_prefixes s) ≡ true

@@ -1,11 +1,11 @@
 -- What an index into the table gives: the string of the row, its values and its key.
-use Rattle.lexicon_fields.proofs.Common.{◌<◌, ◌∙◌, ◌∷◌, ◌≡◌, Bool, List, [], ap, arith, get_or, ltb, map, refl, suc}
-use Rattle.lexicon_fields.proofs.Common.{sym, true, zero, ℕ, and_parts, ltb-true, Bor, list_all, row_count, row_text}
-use Rattle.lexicon_fields.proofs.Common.{row_texts, name_values, prefix_key_of}
-use Rattle.std.proofs.{Math.ListN.get_or-map as mapped, lemmas.List.get_or-map, lemmas.List.Sums.AllPass-from_list_all}
-use Rattle.lexicon_fields.specs.{declared.table.Meaning.Meaning, declared.table.TheConstants.KEYS, Private.FieldValues}
-use Rattle.lexicon_fields.specs.{Private.values_meant}
+use Rattle.lexicon_fields.proofs.Common.{Bool, Bor, List, [], ap, arith, ltb, map, refl, sym, true, ℕ, ◌<◌, ◌∙◌, ◌≡◌}
+use Rattle.lexicon_fields.proofs.Common.{get_or, list_all, name_values, prefix_key_of, row_count, row_text, row_texts}
 use Rattle.lexicon_fields.proofs.{PrefixKeyLemmas.AreBytes, RowTexts.length-row_texts, RowTexts.row_text-default}
+use Rattle.lexicon_fields.specs.Private.{FieldValues, values_meant}
+use Rattle.lexicon_fields.specs.{declared.table.Meaning.Meaning, declared.table.TheConstants.KEYS}
+use Rattle.std.proofs.lemmas.Grind.{common_steps}
+use Rattle.std.proofs.{Math.ListN.get_or-map as mapped, lemmas.List.Sums.AllPass-from_list_all, lemmas.List.get_or-map}
 
 abbrev pub Row : Type 0
 Row = Bor (List ℕ) × Meaning
@@ -40,9 +40,7 @@ abbrev is_byte : ℕ → Bool
 is_byte c = ltb c 256
 
 are_bytes : (s : List ℕ) → list_all is_byte s ≡ true → AreBytes s
-are_bytes [] all i = omega arith
-are_bytes (c ∷ cs) all zero = ltb-true c 256 (and_parts (is_byte c) (list_all is_byte cs) all).0
-are_bytes (c ∷ cs) all (suc i) = are_bytes cs (and_parts (is_byte c) (list_all is_byte cs) all).1 i
+are_bytes s all i = grind (arith, common_steps)
 
 pub row_text-bytes : (i : ℕ) → i < row_count → AreBytes (row_text i)
 unfolding row_texts

@@ -1,14 +1,14 @@
 -- The strings of the rows: they are in strictly increasing order, and which strings are among them.
-use Rattle.lexicon_fields.proofs.Common.{◌+◌, ◌-◌, ◌<◌, ◌∙◌, ◌∷◌, ◌≡◌, ◌≤◌, Bool, Equal, Greater, Less, List, Ordering}
-use Rattle.lexicon_fields.proofs.Common.{[], ap, arith, get_or, inl, inr, length, nat_cmp, refl, subst, sym, true, ℕ}
-use Rattle.lexicon_fields.proofs.Common.{and_parts, bytes_eq-Decides, slice_cmp, list_all, bytes_eq, row_count}
-use Rattle.lexicon_fields.proofs.Common.{row_text, row_texts, is_dash_free}
-use Rattle.std.specs.{List.list_any, List.Sorted.IsStrictlySortedBy, Ordering.is_lt, Ordering.is_eq}
-use Rattle.std.specs.{Ordering.ordering_reverse}
-use Rattle.std.proofs.lemmas.Bool.{agree_below, agree_below_at, cases_order, cases_lt, cases_Bool}
-use Rattle.std.proofs.{lemmas.Cmp.nat_list_cmp_total, lemmas.Map.Keys.sorted_from_all_adjacent}
-use Rattle.std.proofs.{lemmas.Map.Keys.Less-from_sorted, lemmas.Map.Text.is_eq-slice_cmp}
-use Rattle.std.proofs.{lemmas.Option.get_or_from_slice_get, lemmas.Option.slice_get-get_or}
+use Rattle.lexicon_fields.proofs.Common.{Bool, Greater, Ordering, bytes_eq, get_or, length, list_all, nat_cmp, row_text}
+use Rattle.lexicon_fields.proofs.Common.{Equal, Less, List, arith, refl, rules, subst, true, ℕ, ◌+◌, ◌-◌, ◌<◌, ◌∙◌, ◌∷◌}
+use Rattle.lexicon_fields.proofs.Common.{[], and_parts, bytes_eq-Decides, is_dash_free, row_count, row_texts, slice_cmp}
+use Rattle.lexicon_fields.proofs.Common.{ap, inl, inr, sym, ◌≡◌, ◌≤◌}
+use Rattle.std.proofs.lemmas.Bool.{agree_below, agree_below_at, cases_Bool, cases_lt, cases_order}
+use Rattle.std.proofs.lemmas.Map.Keys.{Less-from_sorted, sorted_from_all_adjacent}
+use Rattle.std.proofs.lemmas.Option.{get_or_from_slice_get, slice_get-get_or}
+use Rattle.std.proofs.{lemmas.Cmp.nat_list_cmp_total, lemmas.Map.Text.is_eq-slice_cmp}
+use Rattle.std.specs.Ordering.{is_eq, is_lt, ordering_reverse}
+use Rattle.std.specs.{List.Sorted.IsStrictlySortedBy, List.list_any}
 
 pub length-row_texts : length row_texts ≡ row_count
 unfolding row_texts
@@ -16,8 +16,7 @@ length-row_texts = refl
 
 -- row i is the same whatever is read past the end
 pub row_text-default : (i : ℕ) (d : List ℕ) → i < row_count → get_or row_texts i d ≡ row_text i
-row_text-default i d below =
-    get_or_from_slice_get row_texts i (row_text i) d (slice_get-get_or row_texts i [] (omega (arith, length-row_texts)))
+row_text-default i d below = search (rules, get_or_from_slice_get, slice_get-get_or, length-row_texts)
 
 -- each string precedes the next one, shown for 48 rows at a time
 
@@ -49,23 +48,10 @@ unfolding row_texts
 rises_from_144 k from to = rises_within 144 (row_count - 145) refl k from (omega (arith, to))
 
 rises : (k : ℕ) → k + 1 < row_count → rises_at k ≡ true
-rises k below = elim (cases_lt k 96) [
-  | inl front ↦ elim (cases_lt k 48) [
-    | inl lt ↦ rises_from_0 k (omega arith) lt
-    | inr ge ↦
-        rises_from_48 k (omega arith) front
-  ]
-  | inr back ↦ elim (cases_lt k 144) [
-    | inl lt ↦ rises_from_96 k (omega arith) lt
-    | inr ge ↦
-        rises_from_144 k (omega arith) below
-  ]
-]
+rises k below = search (rules, cases_lt, rises_from_0, rises_from_48, rises_from_96, rises_from_144)
 
 less_from_is_lt : (o : Ordering) → is_lt o ≡ true → o ≡ Less
-less_from_is_lt Less h = refl
-less_from_is_lt Equal h = cc
-less_from_is_lt Greater h = cc
+less_from_is_lt o h = search rules
 
 pub row_texts_sorted : IsStrictlySortedBy (slice_cmp nat_cmp) row_texts
 row_texts_sorted =

@@ -1,17 +1,14 @@
 -- The rows that a binary search compares, step by step.
-use Rattle.lexicon_fields.proofs.Common.{◌+◌, ◌-◌, ◌/◌, ◌<◌, ◌==◌, ◌^◌, ◌∙◌, ◌≡◌, ◌≤◌, Bool, Equal, Greater, Less, List}
-use Rattle.lexicon_fields.proofs.Common.{Ordering, ap, arith, false, if◌then◌else◌, nat_cmp, refl, suc, true, zero, ℕ}
-use Rattle.lexicon_fields.proofs.Common.{slice_cmp, row_count, row_text}
-use Rattle.std.proofs.{Math.Nat.pow-suc, lemmas.Bool.ne_eqb}
-use Rattle.lexicon_fields.specs.Search.{steps_after, steps_among, search_steps}
+use Rattle.lexicon_fields.proofs.Common.{Bool, Equal, Less, List, arith, refl, rules, zero, ℕ, ◌-◌, ◌/◌, ◌<◌, ◌==◌, ◌^◌}
+use Rattle.lexicon_fields.proofs.Common.{Greater, Ordering, if◌then◌else◌, nat_cmp, row_count, row_text, slice_cmp, ◌+◌}
+use Rattle.lexicon_fields.proofs.Common.{suc, ◌≡◌, ◌≤◌}
+use Rattle.lexicon_fields.specs.Search.{search_steps, steps_after, steps_among}
+use Rattle.std.proofs.Math.Nat.{pow-suc}
 
 -- at most one more than either half
 one_more : (none : Bool) (order : Ordering) (upper lower most : ℕ) → upper ≤ most → lower ≤ most
     → (if none then 0 else suc (steps_after order upper lower)) ≤ suc most
-one_more true order upper lower most u l = omega arith
-one_more false Less upper lower most u l = omega (arith, u)
-one_more false Equal upper lower most u l = omega arith
-one_more false Greater upper lower most u l = omega (arith, l)
+one_more none order upper lower most u l = search rules
 
 among-few : (most low size : ℕ) (text : List ℕ) → steps_among most low size text ≤ most
 unfolding steps_among
@@ -42,8 +39,7 @@ on-the-way-first old text = record { most = 8; enough = omega arith; left = refl
 
 among-none : (most low : ℕ) (text : List ℕ) → steps_among most low 0 text ≡ 0
 unfolding steps_among
-among-none zero low text = refl
-among-none (suc most) low text = refl
+among-none most low text = search rules
 
 -- the steps among some rows, by the order of the one in the middle
 among-some : (most low size : ℕ) (text : List ℕ) (order : Ordering) → 0 < size
@@ -52,8 +48,7 @@ among-some : (most low size : ℕ) (text : List ℕ) (order : Ordering) → 0 < 
     ≡ suc (steps_after order (steps_among most (low + (size - size / 2)) (size / 2) text)
     (steps_among most low (size / 2) text))
 unfolding steps_among
-among-some most low size text order some is = let not_none : (size == 0) ≡ false =
-    ne_eqb size 0 (λ none. omega (arith, some, none)) in rw (not_none, is) refl
+among-some most low size text order some is = search rules
 
 module _ (old new later low size : ℕ) (text : List ℕ) (way : IsOnTheWay old new low size text) where
   -- after the row in the middle, whose order this is, a half is left
@@ -90,5 +85,4 @@ module _ (old new later low size : ℕ) (text : List ℕ) (way : IsOnTheWay old 
   found-there some one is = omega (arith, (compared Equal some is).2, one)
 
   pub none-left : size ≡ 0 → new ≡ old + search_steps text
-  none-left none =
-      omega (arith, way.left, ap (λ (n : ℕ). steps_among way.most low n text) none ∙ among-none way.most low text)
+  none-left none = search (rules, among-none)

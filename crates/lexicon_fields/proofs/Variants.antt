@@ -1,7 +1,7 @@
 -- Facts about two values of one variant of an enum.
-use Rattle.lexicon_fields.proofs.Common.{◌∷◌, ◌≡◌, List, [], arith, inl, inr, subst, Record, tag_of}
-use denote.{Struct.Field.Field, Struct.Values.Values, Enum.Enum.tag, Enum.Declared.Choice, Enum.Declared.declared}
-use denote.{Enum.Declared.rowss, Enum.Declared.intoss}
+use Rattle.lexicon_fields.proofs.Common.{◌∷◌, ◌≡◌, List, Record, [], arith, inl, inr, rules, tag_of}
+use denote.Enum.Declared.{Choice, declared, intoss, rowss}
+use denote.{Enum.Enum.tag, Struct.Field.Field, Struct.Values.Values}
 
 -- P holds for every two values of each variant that has fields
 abbrev pub EachPair : (Fss : List (List Field)) → (Choice Fss → Choice Fss → Type 0) → Type 0
@@ -25,7 +25,4 @@ choices_pair ((F ∷ Fs) ∷ Fss) P itself pairs (inr x) (inr y) same =
 pub variants_pair : (N : Record) (P : N.D → N.D → Type 0) → ((x : N.D) → P x x)
     → EachPair N.parts (λ c d. P (N.make c) (N.make d))
     → (x y : N.D) → tag_of (declared N) x ≡ tag_of (declared N) y → P x y
-variants_pair N P itself pairs x y same =
-    subst (λ z. P z y) (N.eta x) (subst (P (N.make (N.as_values x))) (N.eta y)
-    (choices_pair N.parts (λ c d. P (N.make c) (N.make d)) (λ c. itself (N.make c)) pairs (N.as_values x)
-    (N.as_values y) same))
+variants_pair N P itself pairs x y same = search (rules, choices_pair)

@@ -1,6 +1,6 @@
 -- How version strings are parsed, piece by piece.
-use Rattle.lexicon_fields.proofs.Common.{◌&&◌, ◌++◌, ◌+◌, ◌<◌, ◌^◌, ◌∙◌, ◌∷◌, ◌≡◌, ◌≢◌, ◌≤◌, Bool, Err, List, None, Ok}
-use Rattle.lexicon_fields.proofs.Common.{Option, Result, Some, [], ap, arith, cond, false, length, nat_eq, nat_le}
+use Rattle.lexicon_fields.proofs.Common.{◌&&◌, ◌++◌, ◌+◌, ◌<◌, ◌^◌, ◌∙◌, ◌∷◌, ◌≡◌, ◌≢◌, ◌≤◌, Bool, List, None}
+use Rattle.lexicon_fields.proofs.Common.{Option, Result, Some, [], ap, arith, cond, length, nat_eq, nat_le}
 use Rattle.lexicon_fields.proofs.Common.{nat_lt, refl, rules, sym, true, ℕ, and_parts, leb-true, ltb-true, Bor, decimal}
 use Rattle.lexicon_fields.proofs.Common.{list_all, dot, version_name, version_of, DeploymentTarget}
 use Rattle.std.specs.Str.Parse.{IsNumeral, ParsesUnsigned, digits_value, without_leading_plus}
@@ -10,8 +10,8 @@ use Rattle.std.proofs.lemmas.List.Splits.{slice_split_first, slice_split_none, l
 use Rattle.std.proofs.{lemmas.Bool.and_from, lemmas.Bool.lt-ltb, lemmas.Bool.le-leb, lemmas.Fmt.decimal_is_IsNumeral}
 use Rattle.std.proofs.{lemmas.List.Sums.fails_before_first, lemmas.Str.Parse.IsNumeralModel}
 use Rattle.std.proofs.{lemmas.Str.Parse.numerals_by_value}
-use Rattle.lexicon_fields.specs.{Private.remaining_pieces, Version.number_within, Version.piece_number_within}
-use Rattle.lexicon_fields.specs.{Version.version_of_numbers, Version.version_of_pieces, Version.pieces_of}
+use Rattle.lexicon_fields.specs.{Private.remaining_pieces, Version.piece_number_within}
+use Rattle.lexicon_fields.specs.{Version.version_of_numbers, Version.pieces_of}
 use Rattle.lexicon_fields.proofs.LookUpLemmas.{test_apart, all_apart}
 
 -- the test for digits is that of `parse`
@@ -21,10 +21,7 @@ digits_model = numerals_by_value _ (search rules)
 -- a result that is `Ok v` if and only if a test passes
 ok_by_test : {E : Type 0} (r : Result ℕ E) (b : Bool) (P : Type 0) (v : ℕ) → (P → b ≡ true) → (b ≡ true → P)
     → OkIff r P v → result_ok r ≡ cond b (Some v) None
-ok_by_test (Ok x) true P v to from is = ap Some is.1
-ok_by_test (Ok x) false P v to from is = absurd (let bad = to is.0 in cc)
-ok_by_test (Err e) true P v to from is = absurd (is (from refl))
-ok_by_test (Err e) false P v to from is = refl
+ok_by_test r b P v to from is = search rules
 
 -- `parse` at an unsigned type parses a piece within the limit of that type
 parse_piece : {E : Type 0} (k limit : ℕ) (piece : List ℕ) (r : Result ℕ E) → limit + 1 ≡ 2 ^ k
@@ -56,9 +53,7 @@ pieces_of-first text piece rest prefix_key back found = slice_split_first (λ c.
 
 pub pieces_of-whole : (text : List ℕ) → position_or_len (λ c. nat_eq c dot) text ≡ length text
     → pieces_of text ≡ text ∷ []
-pieces_of-whole text none =
-    slice_split_none (λ c. nat_eq c dot) text
-    (λ k d h. fails_before_first (λ c. nat_eq c dot) text k d (omega (arith, none, h)))
+pieces_of-whole text none = search (rules, slice_split_none, fails_before_first)
 
 -- a last piece, and a piece that others follow
 pub pieces-last : (pieces : List (List ℕ)) (p : List ℕ) (rest : Option (Bor (List ℕ)))
@@ -76,60 +71,28 @@ pieces_of-some text none = let e = length-slice_split (λ c. nat_eq c dot) text 
 
 -- a version with no second number, and one with no third
 no_second : (major patch : Option ℕ) → version_of_numbers major None patch ≡ None
-no_second None patch = refl
-no_second (Some major) patch = refl
+no_second major patch = search rules
 
 no_third : (major minor : Option ℕ) → version_of_numbers major minor None ≡ None
-no_third None minor = refl
-no_third (Some major) None = refl
-no_third (Some major) (Some minor) = refl
+no_third major minor = search rules
 
 -- the version of a string by its pieces
 
 pub no_major : (text p : List ℕ) (ps : List (List ℕ)) → pieces_of text ≡ p ∷ ps → piece_number_within 65535 p ≡ None
     → version_of text ≡ None
-unfolding version_of
-no_major text p (_ ∷ _ ∷ _ ∷ _) pieces missing = ap version_of_pieces pieces
-no_major text p _ pieces missing = ap version_of_pieces pieces ∙ rw missing refl
+no_major text p ps pieces missing = search rules
 
 pub no_minor : (text p q : List ℕ) (ps : List (List ℕ)) → pieces_of text ≡ p ∷ q ∷ ps → piece_number_within 255 q ≡ None
     → version_of text ≡ None
-unfolding version_of
-no_minor text p q (_ ∷ _ ∷ _) pieces missing = ap version_of_pieces pieces
-no_minor text p q _ pieces missing =
-    ap version_of_pieces pieces ∙ rw missing (no_second (piece_number_within 65535 p) _)
+no_minor text p q ps pieces missing = search rules
 
 pub no_patch : (text p q r : List ℕ) (ps : List (List ℕ)) → pieces_of text ≡ p ∷ q ∷ r ∷ ps
     → piece_number_within 255 r ≡ None → version_of text ≡ None
-unfolding version_of
-no_patch text p q r (_ ∷ _) pieces missing = ap version_of_pieces pieces
-no_patch text p q r [] pieces missing =
-    ap version_of_pieces pieces ∙ rw missing (no_third (piece_number_within 65535 p) (piece_number_within 255 q))
+no_patch text p q r ps pieces missing = search rules
 
 pub too_many_pieces : (text p q r : List ℕ) (ps : List (List ℕ)) → pieces_of text ≡ p ∷ q ∷ r ∷ ps → ps ≢ []
     → version_of text ≡ None
-unfolding version_of
-too_many_pieces text p q r [] pieces more = absurd (more refl)
-too_many_pieces text p q r (s ∷ ps) pieces more = ap version_of_pieces pieces
-
-pub one_piece : (text p : List ℕ) (major : ℕ) → pieces_of text ≡ p ∷ [] → piece_number_within 65535 p ≡ Some major
-    → version_of text ≡ Some (record { major = major; minor = 0; patch = 0 })
-unfolding version_of
-one_piece text p major pieces first = ap version_of_pieces pieces ∙ rw first refl
-
-pub two_pieces : (text p q : List ℕ) (major minor : ℕ) → pieces_of text ≡ p ∷ q ∷ []
-    → piece_number_within 65535 p ≡ Some major → piece_number_within 255 q ≡ Some minor
-    → version_of text ≡ Some (record { major = major; minor = minor; patch = 0 })
-unfolding version_of
-two_pieces text p q major minor pieces first second = ap version_of_pieces pieces ∙ rw (first, second) refl
-
-pub three_pieces : (text p q r : List ℕ) (major minor patch : ℕ) → pieces_of text ≡ p ∷ q ∷ r ∷ []
-    → piece_number_within 65535 p ≡ Some major → piece_number_within 255 q ≡ Some minor
-    → piece_number_within 255 r ≡ Some patch
-    → version_of text ≡ Some (record { major = major; minor = minor; patch = patch })
-unfolding version_of
-three_pieces text p q r major minor patch pieces first second third =
-    ap version_of_pieces pieces ∙ rw (first, second, third) refl
+too_many_pieces text p q r ps pieces more = search rules
 
 -- the name of a version parses as that version
 
@@ -138,17 +101,11 @@ decimal_digits n small = digits_model.from (decimal n) (decimal_is_IsNumeral n s
 
 -- digits have no leading plus
 without_plus : (ds : List ℕ) → list_all is_ascii_digit ds ≡ true → without_leading_plus ds ≡ ds
-without_plus [] digits = refl
-without_plus (c ∷ cs) digits =
-    rw (test_apart is_ascii_digit c 43 refl (and_parts _ (list_all is_ascii_digit cs) digits).0) refl
+without_plus ds digits = search rules
 
 piece_number_within-decimal : (limit n : ℕ) → n ≤ limit → n < 2 ^ 64 → piece_number_within limit (decimal n) ≡ Some n
 piece_number_within-decimal limit n within small =
-    let numeral = decimal_is_IsNumeral n small in
-    let digits = decimal_digits n small in
-    let some : nat_lt 0 (length (decimal n)) ≡ true = lt-ltb 0 (length (decimal n)) numeral.0.0 in
-    let fits : nat_le n limit ≡ true = le-leb n limit within in
-    ap (number_within limit) (without_plus (decimal n) digits) ∙ rw (numeral.1, some, digits, fits) refl
+    search (rules, decimal_is_IsNumeral, decimal_digits, lt-ltb, le-leb, without_plus)
 
 pieces_of-digits : (ds : List ℕ) → list_all is_ascii_digit ds ≡ true → pieces_of ds ≡ ds ∷ []
 pieces_of-digits ds digits = slice_split_none _ ds (all_apart is_ascii_digit dot refl ds digits)
@@ -163,14 +120,4 @@ pieces_of-dot (c ∷ cs) rest digits =
 pub version_of-name : (v : DeploymentTarget) → v.major < 2 ^ 16 → v.minor < 2 ^ 8 → v.patch < 2 ^ 8
     → version_of (version_name v) ≡ Some v
 version_of-name v major minor patch =
-    let a = decimal_digits v.major (omega arith) in
-    let b = decimal_digits v.minor (omega arith) in
-    let c = decimal_digits v.patch (omega arith) in
-    let others = pieces_of-dot (decimal v.minor) (decimal v.patch) b
-    ∙ ap (λ ps. decimal v.minor ∷ ps) (pieces_of-digits (decimal v.patch) c) in
-    let pieces = pieces_of-dot (decimal v.major) (decimal v.minor ++ (dot ∷ decimal v.patch)) a
-    ∙ ap (λ ps. decimal v.major ∷ ps) others in
-    three_pieces (version_name v) (decimal v.major) (decimal v.minor) (decimal v.patch) v.major v.minor v.patch pieces
-    (piece_number_within-decimal 65535 v.major (omega arith) (omega arith))
-    (piece_number_within-decimal 255 v.minor (omega arith) (omega arith))
-    (piece_number_within-decimal 255 v.patch (omega arith) (omega arith))
+    search (rules, decimal_digits, pieces_of-dot, pieces_of-digits, piece_number_within-decimal)

@@ -42,7 +42,7 @@ abbrev pub pieces_of : List ℕ → List (List ℕ)
 pieces_of text = slice_split (λ c. c == dot) text
 
 -- the version that a string parses as, if any
-unfoldable pub version_of : List ℕ → Option DeploymentTarget
+abbrev pub version_of : List ℕ → Option DeploymentTarget
 version_of text = version_of_pieces (pieces_of text)
 
 -- `major.minor.patch` in plain decimal

@@ -1,14 +1,13 @@
 -- Parsing as a function gives the triple that a string reads as by placements, and how it is refused.
-use Rattle.target_lexicon.proofs.Common
-use Common.{◌↔◌, ◌∙◌, ◌∷◌, ◌≡◌, ◌⊎◌, Err, List, None, Ok, Option, Result, Some, [], ap, inl, inr, refl, subst, ℕ}
-use Common.{MatchResult, reading, reading_from, reading_of_parts, EveryStringHasOneOutcome, IsRefusedAs, ParsesAs}
-use Common.{parts_of, Refusal, special_values, Values, unknown_values}
-use Rattle.target_lexicon.specs.{Field.Architecture, Laws.ReadingIsComputed, Parsing.IsRefused}
-use Rattle.target_lexicon.specs.{GreedyReading.reading_unless_special}
+use Rattle.target_lexicon.proofs.Common.{EveryStringHasOneOutcome, Ok, reading_of_parts, special_values, unknown_values}
+use Rattle.target_lexicon.proofs.Common.{IsRefusedAs, MatchResult, ParsesAs, Refusal, parts_of, reading, reading_from}
+use Rattle.target_lexicon.proofs.Common.{◌↔◌, ◌∙◌, ◌∷◌, List, None, Option, Result, Some, Values, refl, rules, subst, ℕ}
 use Rattle.target_lexicon.proofs.GreedyPlacement.{Run, run, start, strings_of, texts-placed}
 use Rattle.target_lexicon.proofs.ReadParts.{all_of, reading-filled, text-read, text-refused}
-use Rattle.target_lexicon.proofs.UniqueReading.{values_unique, refusal_unique, read_not_refused}
-use Rattle.target_lexicon.proofs.{PartLemmas.parts_of-some}
+use Rattle.target_lexicon.proofs.UniqueReading.{read_not_refused, refusal_unique, values_unique}
+use Rattle.target_lexicon.proofs.{Common.◌≡◌, Common.◌⊎◌, Common.Err, Common.[], Common.ap, PartLemmas.parts_of-some}
+use Rattle.target_lexicon.specs.Parsing.{IsRefused}
+use Rattle.target_lexicon.specs.{Field.Architecture, GreedyReading.reading_unless_special, Laws.ReadingIsComputed}
 
 -- what holds for a string: the function gives what it reads as, or how it is refused
 abbrev pub Holds : List ℕ → Result Values Refusal → Type 0
@@ -57,8 +56,7 @@ reading_computed text = let both = computed text (reading text) (reading-holds t
 -- a string reads or is refused
 outcome : (text : List ℕ) (found : Result Values Refusal) → Holds text found → ((t : Values) × ParsesAs text t)
     ⊎ IsRefused text
-outcome text (Ok t) h = inl (t, h)
-outcome text (Err x) h = inr (x, h)
+outcome text found h = search rules
 
 pub one_outcome : EveryStringHasOneOutcome
 one_outcome text = record {

@@ -1,11 +1,12 @@
 -- The elements of a JSON array that have been parsed so far.
-use Rattle.target_lexicon.proofs.Common.{◌++◌, ◌+◌, ◌<◌, ◌∷◌, ◌≡◌, ◌≤◌, All, List, Option, Some, [], add-one, arith}
-use Rattle.target_lexicon.proofs.Common.{get_or, length, map, refl, subst, suc, take, zero, ℕ, MatchOption}
-use Rattle.target_lexicon.proofs.Common.{ElementsParseAs, Values, values_of, Triple}
-use Rattle.std.proofs.{lemmas.List.map-append, lemmas.List.take_all, lemmas.List.Elements.All-append}
-use Rattle.serde_json.specs.{Data.Data, Data.Items, Find.get_item, View.view, View.items_view}
-use Rattle.serde_json.specs.{declared.value.Value.Value}
-use Rattle.target_lexicon.specs.Json.{JsonParsesAs, IsElementParsed, JsonErrorValue, IsJsonErrorOf, IsFirstError}
+use Rattle.serde_json.specs.Data.{Data, Items}
+use Rattle.serde_json.specs.{Find.get_item, View.items_view, View.view, declared.value.Value.Value}
+use Rattle.std.proofs.lemmas.List.{map-append, take_all}
+use Rattle.std.proofs.{lemmas.Grind.common_steps, lemmas.List.Elements.All-append}
+use Rattle.target_lexicon.proofs.Common.{Some, Triple, Values, [], add-one, arith, get_or, length, map, refl, rules}
+use Rattle.target_lexicon.proofs.Common.{subst, suc, take, values_of, zero, ℕ}
+use Rattle.target_lexicon.proofs.Common.{◌++◌, ◌+◌, ◌<◌, ◌∷◌, ◌≡◌, ◌≤◌, All, ElementsParseAs, List, MatchOption, Option}
+use Rattle.target_lexicon.specs.Json.{IsElementParsed, IsFirstError, IsJsonErrorOf, JsonErrorValue, JsonParsesAs}
 
 -- an element of an array, by its index
 get_item-view : (xs : List Value) (i : ℕ) (x : Value) → i < length xs
@@ -18,8 +19,7 @@ get_item-view (y ∷ ys) (suc i) x within = get_item-view ys i x (omega arith)
 pub at_array : (P : Items → Type 0) (elements : Option Items) (xs ys : List Value) → Some (items_view xs) ≡ elements
     → ys ≡ xs → P (items_view ys)
     → MatchOption elements ⊥ P
-at_array P elements xs ys found same holds =
-    subst (λ (o : Option Items). MatchOption o ⊥ P) found (subst (λ (zs : List Value). P (items_view zs)) same holds)
+at_array P elements xs ys found same holds = search rules
 
 -- one more element parses
 read-more : (xs : List Value) (i : ℕ) (x : Value) (ts : List Values) (t : Values) → i < length xs
@@ -68,14 +68,11 @@ elements_refused xs i x ts error within is read refused =
 pub elements_begun : (xs : List Value) (i : ℕ) (x : Value) (ts : List Values) (t : Values) → i < length xs
     → x ≡ get_or xs i x
     → ElementsParseAs (items_view (take i xs)) ts → JsonParsesAs (view x) t → IsElementParsed (items_view xs) 0
-elements_begun xs i x ts t within is read reads =
-    let here : JsonParsesAs (view (get_or xs i x)) t = subst (λ (v : Value). JsonParsesAs (view v) t) is reads in
-    read-before xs (suc i) (ts ++ t ∷ []) 0 (omega arith) (omega arith) (read-more xs i x ts t within read here)
+elements_begun xs i x ts t within is read reads = grind (arith, common_steps)
 
 -- a fact about each triple so far, and about one more, is one about each
 all-one : (P : Triple → Type 0) (t : Triple) → P t → All P (t ∷ [])
-all-one P t here zero d within = here
-all-one P t here (suc k) d within = absurd (omega arith)
+all-one P t here is d within = search rules
 
 pub all_triples-more : (P : Triple → Type 0) (old new : List Triple) (t : Triple) → new ≡ old ++ t ∷ [] → All P old
     → P t → All P new

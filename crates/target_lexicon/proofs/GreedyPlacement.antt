@@ -1,15 +1,15 @@
 -- The greedy placement: each part is assigned to the first remaining field that it parses as.
-use Rattle.target_lexicon.proofs.Common.{◌∙◌, ◌+◌, ◌<◌, ◌∷◌, ◌≡◌, ◌≢◌, ◌≤◌, ◌⊎◌, List, None, Option, Some, [], ap}
-use Rattle.target_lexicon.proofs.Common.{arith, get_or, inl, inr, length, map, refl, subst, suc, sym, take, true, zero}
-use Rattle.target_lexicon.proofs.Common.{ℕ, cases_Bool, IfSome, Field, Vendor, field_number, parses_as, field_for}
-use Rattle.target_lexicon.proofs.Common.{open_fields, with_value, HasPlacement, IsLeastPlacement, NotGiven, PlacedPart}
-use Rattle.target_lexicon.proofs.Common.{SourceValues, placed_from, expected_after, Values, unknown_values}
-use Rattle.std.proofs.{lemmas.Option.IfSome_then, lemmas.List.take-map}
+use Rattle.std.proofs.{lemmas.List.take-map, lemmas.Option.IfSome_then}
 use Rattle.std.specs.{List.AllZip, List.Sorted.IsStrictlyIncreasing}
+use Rattle.target_lexicon.proofs.Common.{HasPlacement, IsLeastPlacement, expected_after, field_number, unknown_values}
+use Rattle.target_lexicon.proofs.Common.{IfSome, NotGiven, Option, Values, Vendor, field_for, get_or, length, parses_as}
+use Rattle.target_lexicon.proofs.Common.{PlacedPart, SourceValues, [], cases_Bool, open_fields, placed_from, with_value}
+use Rattle.target_lexicon.proofs.Common.{◌+◌, ◌∙◌, Field, List, None, Some, arith, refl, rules, subst, take, true, zero}
+use Rattle.target_lexicon.proofs.Common.{◌<◌, ◌∷◌, ◌≡◌, ◌≢◌, ◌≤◌, ◌⊎◌, ap, inl, inr, map, suc, sym, ℕ}
 use Rattle.target_lexicon.specs.Explanation.{FromPart, same_sources, with_source}
-use Rattle.target_lexicon.specs.Field.{Architecture, OperatingSystem, Environment, BinaryFormat}
-use Rattle.target_lexicon.specs.{Laws.HasOneLeastPlacement, Parsing.IsPlacement, Parsing.AreNotAfter}
-use Rattle.target_lexicon.specs.{GreedyReading.first_field}
+use Rattle.target_lexicon.specs.Field.{Architecture, BinaryFormat, Environment, OperatingSystem}
+use Rattle.target_lexicon.specs.Parsing.{AreNotAfter, IsPlacement}
+use Rattle.target_lexicon.specs.{GreedyReading.first_field, Laws.HasOneLeastPlacement}
 
 -- the parts parse as these fields, which strictly increase and all come after `last`
 abbrev IsPlacedAfter : Field → List (List ℕ) → List Field → Type 0
@@ -83,17 +83,11 @@ open-follows Environment = (refl, refl)
 open-follows BinaryFormat = refl
 
 field_number-bound : (f : Field) → field_number f ≤ 4
-field_number-bound Architecture = omega arith
-field_number-bound _ = omega arith
+field_number-bound f = search rules
 
 -- fields with one index are one field
 pub field_number-injective : (f g : Field) → field_number f ≡ field_number g → f ≡ g
-field_number-injective Architecture Architecture e = refl
-field_number-injective Vendor Vendor e = refl
-field_number-injective OperatingSystem OperatingSystem e = refl
-field_number-injective Environment Environment e = refl
-field_number-injective BinaryFormat BinaryFormat e = refl
-field_number-injective f g e = cc
+field_number-injective f g e = search rules
 
 -- numbers without the first, with another before it, and with a lower one in its place
 increasing-tail : (n : ℕ) (ns : List ℕ) → IsStrictlyIncreasing (n ∷ ns) → IsStrictlyIncreasing ns
@@ -102,30 +96,18 @@ increasing-tail n ns up k h =
     subst (λ i. get_or ns k 0 < get_or (n ∷ ns) i 0) next (up (suc k) (omega (arith, h)))
 
 increasing-cons : (m n : ℕ) (ns : List ℕ) → m < n → IsStrictlyIncreasing (n ∷ ns) → IsStrictlyIncreasing (m ∷ (n ∷ ns))
-increasing-cons m n ns first up zero h = first
-increasing-cons m n ns first up (suc k) h =
-    let next : suc (k + 1) ≡ suc k + 1 = omega arith in
-    subst (λ i. get_or (n ∷ ns) k 0 < get_or (m ∷ (n ∷ ns)) i 0) next (up k (omega (arith, h)))
+increasing-cons m n ns first up is h = search rules
 
 increasing-lower : (m n : ℕ) (ns : List ℕ) → m ≤ n → IsStrictlyIncreasing (n ∷ ns) → IsStrictlyIncreasing (m ∷ ns)
-increasing-lower m n [] h up k within = absurd (omega (arith, within))
-increasing-lower m n (o ∷ ns) h up k within =
-    increasing-cons m o ns (omega (arith, h, up 0 (omega arith))) (increasing-tail n (o ∷ ns) up) k within
+increasing-lower m n ns h up k within = search rules
 
 -- a placement begins with the architecture, and the others are placed after it
 placement-first : (p : List ℕ) (ps : List (List ℕ)) (f : Field) (fs : List Field) → IsPlacement (p ∷ ps) (f ∷ fs)
     → (f ≡ Architecture) × (parses_as Architecture p ≡ true) × IsPlacedAfter Architecture ps fs
-placement-first p ps f fs w =
-    let first = w.first in
-    let is : f ≡ Architecture = cc in (
-      is,
-      subst (λ k. parses_as k p ≡ true) is w.parsed.0,
-      (subst (λ k. IsStrictlyIncreasing (map field_number (k ∷ fs))) is w.increasing, w.parsed.1),
-    )
+placement-first p ps f fs w = search rules
 
 no-placement : (fs : List Field) → IsPlacement [] fs → ⊥
-no-placement [] w = let first = w.first in cc
-no-placement (f ∷ fs) w = w.parsed
+no-placement fs w = search rules
 
 -- the first of the fields after `last` that takes a part comes after `last`, and no later than another that takes it
 first-after : (l : Field) (fs : List Field) (p : List ℕ) → Follows l fs
@@ -196,11 +178,7 @@ AreNotAfter-antisymmetric _ _ a b = absurd a
 -- where the architecture is expected, a part fills no other field
 pub first-is : (p : List ℕ) (f : Field) → field_for (Some Architecture) p ≡ Some f
     → (f ≡ Architecture) × (parses_as Architecture p ≡ true)
-first-is p f found =
-    elim (cases_Bool (parses_as Architecture p)) [
-      | inl takes ↦ let is : Some Architecture ≡ Some f = (rw takes at found) in (cc, takes)
-      | inr skips ↦ absurd (let none = rw skips at found in cc)
-    ]
+first-is p f found = search rules
 
 -- from the start, no placement is earlier than the fields that are filled, and then no part is left
 pub start-first : {b : State} {fs : List Field} {ps left : List PlacedPart} → Fills start fs ps b left → IsEnd b left

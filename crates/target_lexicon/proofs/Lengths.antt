@@ -1,33 +1,30 @@
 -- Printed strings are at most so much longer than the string that was parsed, and the canonical form makes no string
 -- longer.
-use Rattle.target_lexicon.proofs.Common
-use Common.{HasSystemOf, inl, inr, ◌&&◌, ◌+◌, ◌<◌, ◌^◌, ◌||◌, ◌∙◌, ◌∷◌, ◌≡◌, ◌≢◌, ◌≤◌, Bool, List, None, Option, Some}
-use Common.{[], ap, arith, false, length, nat_le, not, refl, subst, suc, sym, true, true≢false, zero, ℕ, and-false}
-use Common.{and_parts, not-true, length-append, join_with_byte, slice_get, unwrap_or, architecture_name}
-use Common.{architecture_of, omits_system, binary_format_name, binary_format_of, environment_name, environment_of, dash}
-use Common.{operating_system_name, operating_system_of, vendor_name, vendor_of, Unknown, HasFieldsOf, HasSpecialFields}
-use Common.{HidesNewlib, PrintsTheEspIdfString, ShowsOnlyNone, Field, field_number, parses_as, field_for, open_fields}
-use Common.{default_binary_format, implied_format, elf_if_unknown, normal_step, step_of, PlacedPart, placed_from}
-use Common.{HoldsParts, IsLeastPlacement, IsValueOf, expected_after, part_at, cons_if, shown_names, shows_binary_format}
-use Common.{shows_environment, shows_operating_system, shows_unknowns, shows_vendor, string_of, SpecialRow}
-use Common.{implies_newlib, special_string, special_triple, Architecture, BinaryFormat, Environment, Known}
-use Common.{OperatingSystem, Values, VendorValue, omits_unknown_system, is_same_format, is_unknown_vendor, values}
-use Rattle.std.proofs.{lemmas.Bool.leb-true, Math.Bool.or-true}
-use Rattle.target_lexicon.specs.{ImpliedFormat.wasm_or_elf, FixedPoints.PrintedStringsGrowAtMost}
-use Rattle.target_lexicon.specs.{FixedPoints.CanonicalStringsGrowAtMost, FixedPoints.RefusedPartsDoNotGrow}
-use Rattle.target_lexicon.specs.{Printing.architecture_implies_format, Printing.environment_implies_format}
-use Rattle.target_lexicon.specs.{Printing.is_none_or_unknown, Printing.shows_implied_format, Printing.text_with}
-use Rattle.target_lexicon.proofs.GreedyPlacement.{cases_Option, Fills, State, Stop, Take, after, first-is, first-least}
-use Rattle.target_lexicon.proofs.GreedyPlacement.{least-filled, open-follows, start, strings_of, texts-placed}
-use Rattle.target_lexicon.proofs.SpecialRows.{RowFacts, row_of_fields, row_of_system, prints_row, string_cases}
-use Rattle.target_lexicon.proofs.PrintingLemmas.{names_after_system, printed_names}
-use Rattle.target_lexicon.proofs.{NamesAcross.environment_of-format, RoundTrips.is_same_format-is}
-use Rattle.target_lexicon.proofs.{RoundTrips.without_system, StepCases.step_cases, StepCases.alone-shows}
-use Rattle.target_lexicon.proofs.{ReadValues.read-holds}
-use Rattle.target_lexicon.proofs.ReadParts.{absent, absent-none}
-use Rattle.lexicon_fields.specs.Laws.{TextsAreNames, NamesGrowAtMost, NamesAreShort, max_name_length}
-use Rattle.lexicon_fields.specs.{Architecture.architecture_texts, Vendor.known_vendor_name}
 use Rattle.lexicon_fields.proofs.LookUpLemmas.{value_named-all}
+use Rattle.lexicon_fields.specs.Laws.{NamesAreShort, NamesGrowAtMost, TextsAreNames, max_name_length}
+use Rattle.lexicon_fields.specs.{Architecture.architecture_texts, Vendor.known_vendor_name}
+use Rattle.std.proofs.{Math.Bool.or-true, lemmas.Bool.leb-true}
+use Rattle.target_lexicon.proofs.Common
+use Common.{HasFieldsOf, HasSpecialFields, HasSystemOf, HidesNewlib, HoldsParts, IsLeastPlacement, IsValueOf, Known}
+use Common.{List, None, OperatingSystem, Option, PlacedPart, PrintsTheEspIdfString, ShowsOnlyNone, Some, SpecialRow}
+use Common.{Unknown, Values, VendorValue, [], and_parts, ap, architecture_name, architecture_of, arith}
+use Common.{binary_format_name, binary_format_of, cons_if, dash, default_binary_format, elf_if_unknown}
+use Common.{environment_name, environment_of, expected_after, false, field_for, field_number, implied_format, inl, inr}
+use Common.{is_same_format, join_with_byte, length, length-append, nat_le, normal_step, not, not-true, omits_system}
+use Common.{omits_unknown_system, open_fields, operating_system_name, operating_system_of, parses_as, part_at}
+use Common.{placed_from, refl, rules, shown_names, shows_binary_format, shows_environment, shows_operating_system}
+use Common.{shows_unknowns, shows_vendor, slice_get, special_string, special_triple, step_of, string_of, subst, suc}
+use Common.{sym, true, true≢false, unwrap_or, values, vendor_name, vendor_of, zero, ℕ}
+use Common.{◌&&◌, ◌+◌, ◌<◌, ◌^◌, ◌||◌, ◌∙◌, ◌∷◌, ◌≡◌, ◌≢◌, ◌≤◌, Architecture, BinaryFormat, Bool, Environment, Field}
+use Rattle.target_lexicon.proofs.GreedyPlacement.{Fills, State, Stop, Take, after, cases_Option, first-is, first-least}
+use Rattle.target_lexicon.proofs.GreedyPlacement.{least-filled, open-follows, start, strings_of, texts-placed}
+use Rattle.target_lexicon.proofs.PrintingLemmas.{names_after_system, printed_names}
+use Rattle.target_lexicon.proofs.SpecialRows.{RowFacts, prints_row, row_of_fields, row_of_system, string_cases}
+use Rattle.target_lexicon.proofs.{NamesAcross.environment_of-format, ReadParts.absent, ReadParts.absent-none}
+use Rattle.target_lexicon.proofs.{ReadValues.read-holds, RoundTrips.is_same_format-is, StepCases.step_cases}
+use Rattle.target_lexicon.specs.FixedPoints.{CanonicalStringsGrowAtMost, PrintedStringsGrowAtMost}
+use Rattle.target_lexicon.specs.Printing.{architecture_implies_format, is_none_or_unknown, shows_implied_format}
+use Rattle.target_lexicon.specs.{FixedPoints.RefusedPartsDoNotGrow, ImpliedFormat.wasm_or_elf, Printing.text_with}
 use Rattle.target_lexicon.specs.declared.exception.RoundTripException.TheVariants as exceptions
 use Rattle.target_lexicon.specs.Values.operating_system
 use Rattle.target_lexicon.specs.Values.environment
@@ -47,13 +44,11 @@ weight-joined part (next ∷ parts) =
 
 pub weight-cons_if : (b : Bool) (part : List ℕ) (parts : List (List ℕ))
     → weight (cons_if b part parts) ≤ suc (length part) + weight parts
-weight-cons_if true part parts = omega arith
-weight-cons_if false part parts = omega arith
+weight-cons_if b part parts = search rules
 
 pub weight-split : (b : Bool) (part : List ℕ) (parts : List (List ℕ))
     → weight (cons_if b part parts) ≡ weight (cons_if b part []) + weight parts
-weight-split true part parts = omega arith
-weight-split false part parts = omega arith
+weight-split b part parts = search rules
 
 weight-parts : (t : Values) (b : Bool) → weight (shown_names b t)
     ≤ suc (length (architecture_name t.architecture))
@@ -89,8 +84,7 @@ sizes_at parts fields =
 -- each part is that of a field
 weight-next : (p : List ℕ) (ps : List (List ℕ)) (f : Field) (fs : List Field) → part_at f ps fs ≡ None
     → weight ps ≡ sizes_at ps fs → weight (p ∷ ps) ≡ sizes_at (p ∷ ps) (f ∷ fs)
-weight-next p ps field.Vendor fs none is = omega (arith, is, ap size_of none)
-weight-next p ps f fs none is = omega (arith, is, ap size_of none)
+weight-next p ps f fs none is = search rules
 
 weight-filled : {a b : State} {fs : List Field} {ps : List PlacedPart} → Fills a fs ps b []
     → weight (strings_of ps) ≡ sizes_at (strings_of ps) fs
@@ -103,8 +97,7 @@ value-growth : {A : Type 0} (name : A → List ℕ) (find : List ℕ → Option 
     → NamesGrowAtMost bytes name find → ((x : A) → bytes ≤ growth x) → suc (length (name unfilled)) ≤ growth unfilled
     → (part : Option (List ℕ)) (x : A) → IsValueOf find unfilled part x
     → suc (length (name x)) ≤ size_of part + growth x
-value-growth name find unfilled bytes growth grows least short None x is = rw is (omega (arith, short))
-value-growth name find unfilled bytes growth grows least short (Some p) x is = omega (arith, grows p x is, least x)
+value-growth name find unfilled bytes growth grows least short part x is = search rules
 
 -- an unfilled system is unknown; the name of another grows less
 abbrev system_growth : OperatingSystem → ℕ
@@ -112,12 +105,10 @@ system_growth operating_system.Unknown = 8
 system_growth _ = 4
 
 system_growth-within : (s : OperatingSystem) → (4 ≤ system_growth s) × (system_growth s ≤ 8)
-system_growth-within operating_system.Unknown = (omega arith, omega arith)
-system_growth-within _ = (omega arith, omega arith)
+system_growth-within s = search rules
 
 is_same_format-self : (f : BinaryFormat) → is_same_format f f ≡ true
-is_same_format-self binary_format.Unknown = refl
-is_same_format-self _ = refl
+is_same_format-self f = search rules
 
 -- the format that is shown of an architecture alone, with its dash
 abbrev alone_size : Architecture → ℕ
@@ -136,23 +127,20 @@ alone-growth text a found =
 
 weight-fewer : (a s e f : Bool) (part : List ℕ)
     → weight (cons_if (a && s && e && f) part []) ≤ weight (cons_if (a && f) part [])
-weight-fewer true true true f part = omega arith
-weight-fewer _ _ _ _ part = omega arith
+weight-fewer a s e f part = search rules
 
 format-short : (f : BinaryFormat) → length (binary_format_name f) ≤ 7
-format-short binary_format.Unknown = omega arith
-format-short _ = omega arith
+format-short f = search rules
 
 -- a special string is not longer than the parts that are shown otherwise
 
 system_shown : (a : Architecture) (s : OperatingSystem) → is_none_or_unknown s ≡ false
     → omits_unknown_system a s ≡ false
-system_shown a operating_system.Unknown known = absurd (true≢false known)
-system_shown a _ known = refl
+system_shown a s known = search rules
 
 weight-row : (t : Values) (b : Bool) (row : SpecialRow) → HasFieldsOf row t → RowFacts row
     → length row.text ≤ length (join_with_byte dash (shown_names b t))
-unfolding shown_names shows_vendor shows_operating_system
+unfolding shown_names
 weight-row t b row is facts = omega (arith, facts.short, weight-shown t b, at_least)
   where
     at_least : length (architecture_name row.architecture) + (1 + length (known_vendor_name row.vendor))
@@ -174,7 +162,6 @@ special-short t b n short = elim (string_cases t) [
 ]
 
 unknown-environment : parses_as field.Environment (binary_format_name binary_format.Unknown) ≡ true
-unfolding parses_as
 unknown-environment = rw (environment_of-format binary_format.Unknown) refl
 
 -- a part that is an unknown format comes after an environment, since it would be an unknown environment
@@ -213,17 +200,7 @@ module _ (formats : TextsAreNames binary_format_name binary_format_of)
 
   implied_format-short : (a : Architecture) (v : VendorValue) (s : OperatingSystem) (e : Environment)
       → architecture_of machine ≡ Some a → IsShort a v s e
-  unfolding implied_format
-  implied_format-short a v operating_system.Unknown e found =
-      omega (
-        arith,
-        alone-growth machine a found,
-        weight-fewer (not (architecture_implies_format a)) true
-            (not (environment_implies_format e)) (not (is_same_format (wasm_or_elf a) binary_format.Unknown))
-            (binary_format_name (wasm_or_elf a)),
-      )
-  implied_format-short a v s e found =
-      omega (arith, architectures machine a found, weight-cons_if, format-short (implied_format a s e))
+  implied_format-short a v s e found = search rules
 
   format-growth : (t : Values) (part : Option (List ℕ)) → architecture_of machine ≡ Some t.architecture
       → IsValueOf binary_format_of (default_binary_format t) part t.binary_format
@@ -231,7 +208,6 @@ module _ (formats : TextsAreNames binary_format_name binary_format_of)
       + (weight (cons_if (shows_binary_format t) (binary_format_name t.binary_format) []) + system_growth
       t.operating_system)
       ≤ length machine + (size_of part + 14)
-  unfolding shows_binary_format
   format-growth t None found is =
       rw (is, is_same_format-self (default_binary_format t))
       (omega (arith, implied_format-short t.architecture t.vendor t.operating_system t.environment found))
@@ -247,14 +223,7 @@ module _ (formats : TextsAreNames binary_format_name binary_format_of)
   environment-growth : (t : Values) (part : Option (List ℕ)) (rest : List (List ℕ))
       → IsValueOf environment_of environment.Unknown part t.environment
       → weight (cons_if (shows_environment t) (environment_name t.environment) rest) ≤ size_of part + weight rest
-  unfolding shows_environment
-  environment-growth t None rest is = rw is (omega arith)
-  environment-growth t (Some p) rest is =
-      omega (
-        arith,
-        weight-cons_if (shows_environment t) (environment_name t.environment) rest,
-        ap length (environments p t.environment is),
-      )
+  environment-growth t part rest is = search rules
 
   -- the architecture, and the parts that are shown after the system
   after_system-growth : (t : Values) (e f : Option (List ℕ)) (b : Bool) → shows_unknowns t ≡ b
@@ -385,8 +354,7 @@ special-does_not_grow t has =
 
 esp-does_not_grow : (t : Values) → PrintsTheEspIdfString t
     → DoesNotGrow (step_of (Some exceptions.PrintsTheEspIdfString) t) t
-unfolding string_of shown_names shows_vendor shows_operating_system shows_environment shows_binary_format implied_format
-    special_string implies_newlib
+unfolding string_of shown_names special_string
 esp-does_not_grow t is = rw is (omega arith)
 
 -- the names of a triple with the vendor and the system of a row, if the environment isn't shown
@@ -395,21 +363,12 @@ row-names : (a : Architecture) (row : SpecialRow) (e : Environment) (f : BinaryF
     → shown_names false (values a (Known row.vendor) row.operating_system e f)
     ≡ architecture_name a ∷ known_vendor_name row.vendor ∷ operating_system_name row.operating_system
     ∷ cons_if (not (is_same_format f binary_format.Elf) || false) (binary_format_name f) []
-unfolding shown_names shows_vendor shows_operating_system shows_binary_format
-row-names a row e f facts hidden =
-    rw (
-      facts.vendor,
-      hidden,
-      facts.implied a e,
-      facts.operating_system,
-      system_shown a row.operating_system facts.operating_system,
-      and-false (not (architecture_implies_format a)),
-    ) refl
+unfolding shown_names
+row-names a row e f facts hidden = search rules
 
 row-lighter : (a : Architecture) (row : SpecialRow) → RowFacts row → (f : BinaryFormat)
     → weight (printed_names (values a (Known row.vendor) row.operating_system environment.Unknown (elf_if_unknown f)))
     ≤ weight (printed_names (values a (Known row.vendor) row.operating_system environment.Newlib f))
-unfolding shows_environment
 row-lighter a row facts binary_format.Unknown =
     rw (
       row-names a row environment.Unknown binary_format.Elf facts refl,
@@ -434,25 +393,8 @@ newlib-lighter t is = let at = row_of_system t is.system in lighter-by t at.0 at
 alone-lighter : (a : Architecture) (v : VendorValue) (f : BinaryFormat) → omits_system a ≡ true
     → weight (printed_names (values a v operating_system.None_ environment.Unknown f))
     ≤ weight (printed_names (values a v operating_system.Unknown environment.None f))
-unfolding shown_names shows_vendor shows_operating_system shows_environment shows_binary_format implied_format
-alone-lighter a v binary_format.Unknown omits =
-    rw (omits, (alone-shows a omits).0, or-true (not (is_unknown_vendor v) || false), without_system v) (omega (
-      arith,
-      weight-cons_if (shows_vendor (values a v operating_system.None_ environment.Unknown binary_format.Unknown))
-          (vendor_name v) (operating_system_name operating_system.None_ ∷ []),
-    ))
-alone-lighter a v f omits =
-    rw (
-      omits,
-      (alone-shows a omits).0,
-      or-true (not (is_unknown_vendor v) || false),
-      or-true (not (is_same_format f (wasm_or_elf a))),
-      without_system v,
-    ) (omega (
-      arith,
-      weight-cons_if (shows_vendor (values a v operating_system.None_ environment.Unknown f)) (vendor_name v)
-          (operating_system_name operating_system.None_ ∷ binary_format_name f ∷ []),
-    ))
+unfolding shown_names
+alone-lighter a v f omits = search rules
 
 no_string : (t : Values) → is_none_or_unknown t.operating_system ≡ true → special_string t ≡ None
 no_string t without = elim (string_cases t) [

@@ -10,7 +10,7 @@
 -- parts parse as the normal step), TextRoundTrips (so does the string), FixedPointLemmas (which triples the step leaves
 -- unchanged), SettleLemmas (a second step changes none), RoundCall (what the call `round` gives), ModelsKnown,
 -- QueriesKept (the step keeps the answers of queries).
--- Equality and hashing: SameValues, HashInputPairs, VariantHashes. JSON lists: Elements. Callers' proofs: OnLiterals.
+-- Equality and hashing: SameValues, HashInputPairs. JSON lists: Elements. Callers' proofs: OnLiterals.
 -- Common passes on the names that most of them import.
 pub mod Common
 pub mod ComputedReading
@@ -37,6 +37,5 @@ pub mod StepCases
 pub mod TextRoundTrips
 pub mod UniqueReading
 pub mod Upstream
-pub mod VariantHashes
 pub mod Vendors
 pub mod WordLengths

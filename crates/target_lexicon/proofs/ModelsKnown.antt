@@ -1,29 +1,24 @@
 -- The data models of triples.
-use Rattle.target_lexicon.proofs.Common.{cases_Bool, ◌∙◌, ◌≡◌, ◌⊎◌, None, Option, Some, ap, false, inl, inr, is_none}
-use Rattle.target_lexicon.proofs.Common.{refl, true≢false, option_map, U32, convention_on, data_model}
-use Rattle.target_lexicon.proofs.Common.{pointer_width, Architecture, OperatingSystem, Values}
-use Rattle.target_lexicon.specs.declared.calling_convention.CallingConvention.{CallingConvention}
-use Rattle.target_lexicon.specs.declared.data_model.CDataModel.{CDataModel}
-use Rattle.target_lexicon.specs.DataModel.{size_bits, sizes_of}
-use Rattle.target_lexicon.specs.declared.calling_convention.CallingConvention.TheVariants.{SystemV, AppleAarch64}
-use Rattle.target_lexicon.specs.declared.data_model.CDataModel.TheVariants.{ILP32, LLP64, LP64}
-use Rattle.target_lexicon.specs.Queries.{convention_model_64, convention_model_32, has_llp64, has_ilp32, other_model_64}
-use Rattle.target_lexicon.specs.Queries.{other_model_32, model_64, model_32, model_of_width}
 use Rattle.lexicon_fields.specs.declared.architecture.Architecture.TheVariants.{Wasm32, Wasm64}
-use Rattle.lexicon_fields.specs.declared.pointer_width.PointerWidth.{PointerWidth}
 use Rattle.lexicon_fields.specs.declared.pointer_width.PointerWidth.TheVariants.{U64}
-use Rattle.lexicon_fields.specs.PointerWidth.{width_bits}
+use Rattle.lexicon_fields.specs.{PointerWidth.width_bits, declared.pointer_width.PointerWidth.PointerWidth}
+use Rattle.target_lexicon.proofs.Common.{ap, cases_Bool, convention_on, data_model, false, inl, inr, option_map}
+use Rattle.target_lexicon.proofs.Common.{pointer_width, refl, rules}
+use Rattle.target_lexicon.proofs.Common.{◌∙◌, ◌≡◌, ◌⊎◌, Architecture, None, OperatingSystem, Option, Some, U32, Values}
+use Rattle.target_lexicon.specs.Queries.{convention_model_32, convention_model_64, has_ilp32, has_llp64, model_32}
+use Rattle.target_lexicon.specs.Queries.{model_64, model_of_width, other_model_32, other_model_64}
+use Rattle.target_lexicon.specs.declared.calling_convention.CallingConvention.TheVariants.{AppleAarch64, SystemV}
+use Rattle.target_lexicon.specs.declared.data_model.CDataModel.TheVariants.{ILP32, LLP64, LP64}
+use Rattle.target_lexicon.specs.{DataModel.size_bits, declared.calling_convention.CallingConvention.CallingConvention}
+use Rattle.target_lexicon.specs.{DataModel.sizes_of, declared.data_model.CDataModel.CDataModel}
 
 -- the two models of 64-bit pointers
 
 by_convention_64 : (c : Option CallingConvention) (m : CDataModel) → convention_model_64 c ≡ Some m → m ≡ LP64
-by_convention_64 (Some SystemV) m h = cc
-by_convention_64 (Some AppleAarch64) m h = cc
-by_convention_64 _ m h = absurd (true≢false (ap is_none h))
+by_convention_64 c m h = search rules
 
 off_llp64 : (a : Architecture) (c : Option CallingConvention) (m : CDataModel) → other_model_64 a c ≡ Some m → m ≡ LP64
-off_llp64 Wasm64 c m h = cc
-off_llp64 _ c m h = by_convention_64 c m h
+off_llp64 a c m h = search rules
 
 at_64 : (a : Architecture) (s : OperatingSystem) (m : CDataModel) → model_64 a s ≡ Some m → (m ≡ LLP64) ⊎ (m ≡ LP64)
 at_64 a s m h = elim (cases_Bool (has_llp64 s)) [
@@ -34,12 +29,10 @@ at_64 a s m h = elim (cases_Bool (has_llp64 s)) [
 -- the one model of 32-bit pointers
 
 by_convention_32 : (c : Option CallingConvention) (m : CDataModel) → convention_model_32 c ≡ Some m → m ≡ ILP32
-by_convention_32 (Some SystemV) m h = cc
-by_convention_32 _ m h = absurd (true≢false (ap is_none h))
+by_convention_32 c m h = search rules
 
 off_ilp32 : (a : Architecture) (c : Option CallingConvention) (m : CDataModel) → other_model_32 a c ≡ Some m → m ≡ ILP32
-off_ilp32 Wasm32 c m h = cc
-off_ilp32 _ c m h = by_convention_32 c m h
+off_ilp32 a c m h = search rules
 
 at_32 : (a : Architecture) (s : OperatingSystem) (m : CDataModel) → model_32 a s ≡ Some m → m ≡ ILP32
 at_32 a s m h = elim (cases_Bool (has_ilp32 s)) [
@@ -58,19 +51,16 @@ chosen _ a s m h = absurd cc
 
 pub model_pointers : (t : Values) (m : CDataModel) → data_model t ≡ Some m
     → option_map width_bits (pointer_width t) ≡ Some (size_bits (sizes_of m).pointer)
-unfolding data_model
 model_pointers t m h = (chosen (pointer_width t) t.architecture t.operating_system m h).0
 
 pub one_of_three : (t : Values) (m : CDataModel) → data_model t ≡ Some m → (m ≡ ILP32) ⊎ ((m ≡ LLP64) ⊎ (m ≡ LP64))
-unfolding data_model
 one_of_three t m h = (chosen (pointer_width t) t.architecture t.operating_system m h).1
 
 -- the model on another system is that of the convention, except on WebAssembly
 
 off_wasm_64-is : (a : Architecture) (c : Option CallingConvention) → (a ≡ Wasm64 → ⊥)
     → other_model_64 a c ≡ convention_model_64 c
-off_wasm_64-is Wasm64 c n = absurd (n refl)
-off_wasm_64-is _ c n = refl
+off_wasm_64-is a c n = search rules
 
 pub wasm_64-is : (a : Architecture) (s : OperatingSystem) → has_llp64 s ≡ false → a ≡ Wasm64 → model_64 a s ≡ Some LP64
 wasm_64-is a s n is = rw n (ap (λ architecture. other_model_64 architecture (convention_on a s)) is)
@@ -81,8 +71,7 @@ convention_64-is a s c n p is = rw n (off_wasm_64-is a (convention_on a s) p ∙
 
 off_wasm_32-is : (a : Architecture) (c : Option CallingConvention) → (a ≡ Wasm32 → ⊥)
     → other_model_32 a c ≡ convention_model_32 c
-off_wasm_32-is Wasm32 c n = absurd (n refl)
-off_wasm_32-is _ c n = refl
+off_wasm_32-is a c n = search rules
 
 pub wasm_32-is : (a : Architecture) (s : OperatingSystem) → has_ilp32 s ≡ false → a ≡ Wasm32 → model_32 a s ≡ Some ILP32
 wasm_32-is a s n is = rw n (ap (λ architecture. other_model_32 architecture (convention_on a s)) is)
@@ -94,10 +83,7 @@ convention_32-is a s c n p is = rw n (off_wasm_32-is a (convention_on a s) p ∙
 -- and other conventions have no model
 pub no_convention_64 : (c : CallingConvention) → (c ≡ SystemV → ⊥) → (c ≡ AppleAarch64 → ⊥)
     → convention_model_64 (Some c) ≡ None
-no_convention_64 SystemV p q = absurd (p refl)
-no_convention_64 AppleAarch64 p q = absurd (q refl)
-no_convention_64 _ p q = refl
+no_convention_64 c p q = search rules
 
 pub no_convention_32 : (c : CallingConvention) → (c ≡ SystemV → ⊥) → convention_model_32 (Some c) ≡ None
-no_convention_32 SystemV p = absurd (p refl)
-no_convention_32 _ p = refl
+no_convention_32 c p = search rules

@@ -1,11 +1,10 @@
 -- The law of names for the five fields, and the names of one field, parsed as an earlier field.
-use Rattle.target_lexicon.proofs.Common.{◌≡◌, List, None, Option, Some, false, refl, true, ℕ, and-false}
-use Rattle.target_lexicon.proofs.Common.{architecture_name, architecture_of, binary_format_name, binary_format_of}
-use Rattle.target_lexicon.proofs.Common.{environment_name, environment_of, HasVersionInRange, fixed_operating_system_of}
-use Rattle.target_lexicon.proofs.Common.{operating_system_name, operating_system_of, is_admitted, is_plain}
-use Rattle.target_lexicon.proofs.Common.{known_vendor_of, vendor_name, vendor_of, Unknown, BinaryFormat, Environment}
-use Rattle.target_lexicon.proofs.Common.{Known, OperatingSystem, VendorValue}
 use Rattle.lexicon_fields.specs.Laws.{NamesReadBack, NamesReadBackOn}
+use Rattle.target_lexicon.proofs.Common
+use Common.{Unknown, VendorValue, and-false, architecture_name, architecture_of, binary_format_name, binary_format_of}
+use Common.{environment_name, environment_of, false, fixed_operating_system_of, is_admitted, is_plain, known_vendor_of}
+use Common.{operating_system_name, operating_system_of, refl, rules, true, vendor_name, vendor_of, ℕ}
+use Common.{◌≡◌, BinaryFormat, Environment, HasVersionInRange, Known, List, None, OperatingSystem, Option, Some}
 use Rattle.target_lexicon.specs.Values.operating_system
 use Rattle.target_lexicon.specs.Values.environment
 use Rattle.target_lexicon.specs.Values.binary_format
@@ -25,8 +24,7 @@ format_as_environment _ = None
 
 pub environment_of-format : (f : BinaryFormat) → environment_of (binary_format_name f) ≡ format_as_environment f
 unfolding environment_of
-environment_of-format binary_format.Unknown = refl
-environment_of-format _ = refl
+environment_of-format f = search rules
 
 abbrev pub format_as_system : BinaryFormat → Option OperatingSystem
 format_as_system binary_format.Unknown = Some operating_system.Unknown
@@ -34,8 +32,7 @@ format_as_system _ = None
 
 pub operating_system_of-format : (f : BinaryFormat) → operating_system_of (binary_format_name f) ≡ format_as_system f
 unfolding operating_system_of fixed_operating_system_of
-operating_system_of-format binary_format.Unknown = refl
-operating_system_of-format _ = refl
+operating_system_of-format f = search rules
 
 -- of the names of environments only `unknown` and `none` are those of systems
 abbrev pub environment_as_system : Environment → Option OperatingSystem
@@ -46,8 +43,7 @@ environment_as_system _ = None
 pub operating_system_of-environment : (e : Environment)
     → operating_system_of (environment_name e) ≡ environment_as_system e
 unfolding operating_system_of fixed_operating_system_of
-operating_system_of-environment environment.Unknown = refl
-operating_system_of-environment _ = refl
+operating_system_of-environment e = search rules
 
 -- of the names of systems only `unknown` is that of a vendor
 abbrev pub system_as_vendor : OperatingSystem → Option VendorValue

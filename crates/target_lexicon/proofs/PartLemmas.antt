@@ -1,20 +1,17 @@
 -- A string has exactly one list of parts.
-use Rattle.target_lexicon.proofs.Common.{not-true, ◌++◌, ◌+◌, ◌-◌, ◌<◌, ◌∙◌, ◌∷◌, ◌≡◌, ◌≢◌, List, [], ap, arith, drop}
-use Rattle.target_lexicon.proofs.Common.{false, get_or, inl, inr, length, nat_eq, refl, sym, take, true, ℕ, and_parts}
-use Rattle.target_lexicon.proofs.Common.{cases_Bool, join_with_byte, ◌==◌, dash, ArePartsOf, parts_of}
-use Rattle.std.specs.List.{list_all, list_any, onto_first, before_first, after_first, slice_range, position_or_len}
-use Rattle.std.proofs.lemmas.Bool.{or_parts, ne_eqb, eq-eqb}
-use Rattle.std.proofs.lemmas.List.Sums.{fails_before_first, position_or_len_is}
-use Rattle.std.proofs.lemmas.List.Splits.{length-slice_split, join_with_byte-slice_split, slice_split_first}
-use Rattle.std.proofs.lemmas.List.Splits.{slice_split_none}
 use Rattle.lexicon_fields.specs.Names.{is_dash_free}
+use Rattle.std.proofs.lemmas.List.Splits.{join_with_byte-slice_split, length-slice_split, slice_split_first}
+use Rattle.std.proofs.lemmas.List.Sums.{fails_before_first, position_or_len_is}
+use Rattle.std.proofs.{lemmas.Bool.eq-eqb, lemmas.Bool.ne_eqb, lemmas.List.Splits.slice_split_none}
+use Rattle.std.specs.List.{after_first, before_first, list_all, onto_first, position_or_len, slice_range}
+use Rattle.target_lexicon.proofs.Common.{ap, arith, cases_Bool, dash, drop, false, get_or, inl, inr, join_with_byte}
+use Rattle.target_lexicon.proofs.Common.{length, nat_eq, parts_of, refl, rules, sym, take, true, ℕ}
+use Rattle.target_lexicon.proofs.Common.{◌++◌, ◌+◌, ◌-◌, ◌<◌, ◌==◌, ◌∙◌, ◌∷◌, ◌≡◌, ◌≢◌, ArePartsOf, List, [], and_parts}
 
 -- the first byte of a string without dashes is no dash, and the rest has none
 dash_free-parts : (b : ℕ) (bs : List ℕ) → is_dash_free (b ∷ bs) ≡ true
     → (nat_eq b dash ≡ false) × (is_dash_free bs ≡ true)
-dash_free-parts b bs free =
-    let apart = or_parts (nat_eq b dash) (list_any (λ c. c == dash) bs) (not-true _ free) in
-    (apart.0, rw (apart.1) refl)
+dash_free-parts b bs free = search rules
 
 parts_of-one : (bs : List ℕ) → is_dash_free bs ≡ true → parts_of bs ≡ bs ∷ []
 parts_of-one [] free = refl
@@ -34,8 +31,7 @@ parts_of-joined p (q ∷ ps) free =
 
 onto_first-free : (b : ℕ) (ps : List (List ℕ)) → nat_eq b dash ≡ false → list_all is_dash_free ps ≡ true
     → list_all is_dash_free (onto_first b ps) ≡ true
-onto_first-free b [] other free = rw other refl
-onto_first-free b (p ∷ ps) other free = rw other free
+onto_first-free b ps other free = search rules
 
 parts_of-free : (bs : List ℕ) → list_all is_dash_free (parts_of bs) ≡ true
 parts_of-free [] = refl

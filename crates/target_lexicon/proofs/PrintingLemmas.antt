@@ -1,17 +1,15 @@
 -- The pieces that are written are the string of the triple.
-use Rattle.target_lexicon.proofs.Common
-use Common.{◌++◌, ◌||◌, ◌∙◌, ◌∷◌, ◌≡◌, Bool, List, None, Option, [], ap, append_assoc, false, if◌then◌else◌, not, refl}
-use Common.{sym, true, ℕ, and-false, join_with_byte, architecture_name, binary_format_name, environment_name, dash}
-use Common.{operating_system_name, vendor_name, cons_if, shown_names, shows_binary_format, shows_environment}
-use Common.{shows_operating_system, shows_unknowns, shows_vendor, implies_newlib, special_string, Architecture}
-use Common.{Environment, OperatingSystem, Values, omits_unknown_system}
-use Rattle.std.specs.{Borrow.Bor, Bool.then_some}
-use Rattle.std.proofs.lemmas.List.{append-nil}
 use Rattle.lexicon_fields.specs.OperatingSystem.{system_version, version_suffix}
 use Rattle.lexicon_fields.specs.declared.deployment_target.DeploymentTarget.{DeploymentTarget}
-use Rattle.target_lexicon.specs.{Values.is_unknown_environment, Values.is_newlib, Private.name_piece}
-use Rattle.target_lexicon.specs.{Printing.text_with}
-use Rattle.target_lexicon.specs.Values.operating_system
+use Rattle.std.proofs.{lemmas.Grind.common_steps, lemmas.List.append-nil}
+use Rattle.std.specs.{Bool.then_some, Borrow.Bor}
+use Rattle.target_lexicon.proofs.Common
+use Common.{OperatingSystem, binary_format_name, environment_name, join_with_byte, shows_environment, shows_unknowns, ℕ}
+use Common.{architecture_name, omits_unknown_system, operating_system_name, shows_binary_format, shows_operating_system}
+use Common.{if◌then◌else◌, Architecture, Environment, cons_if, shown_names, shows_vendor, special_string, vendor_name}
+use Common.{◌++◌, ◌||◌, ◌∷◌, ◌≡◌, Bool, List, None, Option, Values, [], ap, arith, dash, false, not, rules, sym, true}
+use Rattle.target_lexicon.specs.Values.{is_newlib, is_unknown_environment}
+use Rattle.target_lexicon.specs.{Printing.text_with, Private.name_piece}
 use Rattle.target_lexicon.specs.Values.environment
 
 -- the names that are shown
@@ -41,33 +39,22 @@ dashed_joined part (next ∷ parts) = ap (λ (s : List ℕ). part ++ (dash ∷ s
 part_before : (b : Bool) (part : List ℕ) (parts : List (List ℕ))
     → dashed (cons_if b part parts) ≡ dashed_if b part ++ dashed parts
 unfolding dashed
-part_before true part parts = refl
-part_before false part parts = refl
+part_before b part parts = search rules
 
 five_parts : (a p q r s : List ℕ) (w x y z : Bool)
     → (((a ++ dashed_if w p) ++ dashed_if x q) ++ dashed_if y r) ++ dashed_if z s
     ≡ join_with_byte dash (a ∷ cons_if w p (cons_if x q (cons_if y r (cons_if z s []))))
 unfolding dashed
-five_parts a p q r s w x y z =
-    rw (
-      ← dashed_joined a (cons_if w p (cons_if x q (cons_if y r (cons_if z s [])))),
-      part_before w p (cons_if x q (cons_if y r (cons_if z s []))),
-      part_before x q (cons_if y r (cons_if z s [])),
-      part_before y r (cons_if z s []),
-      part_before z s [],
-      append-nil (dashed_if z s),
-    ) (simp append_assoc)
+five_parts a p q r s w x y z = grind (arith, common_steps)
 
 -- a name that is shown if this holds, as a piece
 pub name_piece-shown : (b : Bool) (name : Bor (List ℕ)) → name_piece (then_some b name) ≡ dashed_if b name.now
-name_piece-shown true name = refl
-name_piece-shown false name = refl
+name_piece-shown b name = search rules
 
 -- a system that isn't shown has no version
 version-hidden : (a : Architecture) (s : OperatingSystem) → not (omits_unknown_system a s) ≡ false
     → system_version s ≡ None
-version-hidden a operating_system.Unknown hidden = refl
-version-hidden a _ hidden = absurd cc
+version-hidden a s hidden = search rules
 
 -- a system that is shown if this holds, as a piece and its version
 system-shown : (last_three : Bool) (t : Values) (before : List ℕ) (prefix : Bor (List ℕ)) (b : Bool)
@@ -75,13 +62,7 @@ system-shown : (last_three : Bool) (t : Values) (before : List ℕ) (prefix : Bo
     → prefix.now ++ version_suffix (system_version t.operating_system) ≡ operating_system_name t.operating_system
     → (before ++ name_piece (then_some b prefix)) ++ version_suffix (system_version t.operating_system)
     ≡ before ++ dashed_if b (operating_system_name t.operating_system)
-unfolding shows_operating_system
-system-shown last_three t before prefix true b_is name_is =
-    append_assoc before (dash ∷ prefix.now) (version_suffix (system_version t.operating_system))
-    ∙ ap (λ (s : List ℕ). before ++ (dash ∷ s)) name_is
-system-shown false t before prefix false b_is name_is =
-    rw (version-hidden t.architecture t.operating_system (sym b_is)) (append-nil (before ++ []))
-system-shown true t before prefix false b_is name_is = absurd cc
+system-shown last_three t before prefix b b_is name_is = grind (arith, common_steps)
 
 -- without a special string these pieces are the string
 pub string_of_pieces : (last_three : Bool) (t : Values) (a v s e f : Bor (List ℕ))
@@ -122,19 +103,11 @@ string_of_pieces last_three t a v s e f vendor system environment format version
 -- an environment other than these two is always shown
 
 other_than_unknown : (e : Environment) → (e ≡ environment.Unknown → ⊥) → is_unknown_environment e ≡ false
-other_than_unknown environment.Unknown n = absurd (n refl)
-other_than_unknown _ n = refl
+other_than_unknown e n = search rules
 
 other_than_newlib : (e : Environment) → (e ≡ environment.Newlib → ⊥) → is_newlib e ≡ false
-other_than_newlib environment.Newlib n = absurd (n refl)
-other_than_newlib _ n = refl
+other_than_newlib e n = search rules
 
 pub other_environment_shown : (t : Values) → (t.environment ≡ environment.Unknown → ⊥)
     → (t.environment ≡ environment.Newlib → ⊥) → true ≡ shows_environment t
-unfolding shows_environment
-other_environment_shown t unknown newlib =
-    rw (
-      other_than_unknown t.environment unknown,
-      other_than_newlib t.environment newlib,
-      and-false (implies_newlib t.vendor t.operating_system),
-    ) refl
+other_environment_shown t unknown newlib = search rules

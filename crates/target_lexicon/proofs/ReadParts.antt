@@ -1,28 +1,26 @@
 -- The parts of a string are read one after the other. Where they end, and at a part that fills no field, this gives
 -- what the string reads as, or how it is refused.
-use Rattle.target_lexicon.proofs.Common
-use Common.{◌++◌, ◌∙◌, ◌∷◌, ◌≡◌, ◌≢◌, ◌≤◌, List, None, Option, Some, [], ap, arith, false, inl, inr, is_some}
-use Common.{length, nat_eq, refl, subst, suc, sym, take, true, ℕ, cases_Bool, false≢true, MatchOption, slice_get}
-use Common.{unwrap_or, Implied, IsRefusedAfter, NotGiven, PlacedPart, SourceValues, placed_from, sources_at, sources_of}
-use Common.{Field, Vendor, field_number, parses_as, field_for, open_fields, reading_from, architecture_of}
-use Common.{binary_format_of, environment_of, operating_system_of, vendor_of, default_binary_format, HasPlacement}
-use Common.{HoldsParts, IsLeastPlacement, IsRefusal, IsValueOf, ParsesAs, expected_after, last_field, part_at, parts_of}
-use Common.{refusal_with, special_values, Known, Unknown, Values, values_of_ref}
 use Rattle.std.proofs.{lemmas.List.take-take, lemmas.Option.slice_get-map}
-use Rattle.target_lexicon.specs.declared.reading.Reading.{Reading}
-use Rattle.target_lexicon.specs.Explanation.{AreInString, AreFieldsOf, AreSourcesOf, FromPart, SourceValue, source_at}
+use Rattle.target_lexicon.proofs.Common
+use Common.{IsRefusedAfter, IsValueOf, Known, List, MatchOption, None, NotGiven, Option, ParsesAs, PlacedPart, Some}
+use Common.{SourceValues, Unknown, Values, Vendor, [], ap, architecture_of, arith, binary_format_of, cases_Bool}
+use Common.{default_binary_format, environment_of, expected_after, false, field_for, field_number, inl, inr, is_some}
+use Common.{last_field, length, nat_eq, open_fields, operating_system_of, parses_as, part_at, parts_of, placed_from}
+use Common.{reading_from, refl, refusal_with, rules, slice_get, sources_at, sources_of, special_values, subst, suc, sym}
+use Common.{take, true, unwrap_or, values_of_ref, vendor_of, ℕ}
+use Common.{◌++◌, ◌∙◌, ◌∷◌, ◌≡◌, ◌≢◌, ◌≤◌, Field, HasPlacement, HoldsParts, Implied, IsLeastPlacement, IsRefusal}
+use Rattle.target_lexicon.proofs.GreedyPlacement.{Fills, filled-least, first-strings, placement_prefix, texts-placed}
+use Rattle.target_lexicon.proofs.GreedyPlacement.{State, Stop, Take, after, field-after, start, start-first, strings_of}
+use Rattle.target_lexicon.proofs.PartLemmas.{parts_of-are, parts_of-some}
+use Rattle.target_lexicon.proofs.SourceLemmas.{all-sources-in, placed-in}
+use Rattle.target_lexicon.specs.Explanation.{AreFieldsOf, AreInString, AreSourcesOf, FromPart, SourceValue, source_at}
 use Rattle.target_lexicon.specs.Explanation.{source_values, with_source}
+use Rattle.target_lexicon.specs.Field.{Architecture, BinaryFormat, Environment, OperatingSystem}
 use Rattle.target_lexicon.specs.GreedyReading.{HasFilled, IsTaken, finished, finished_sources, first_field}
-use Rattle.target_lexicon.specs.Parsing.{IsExpectedAfter, IsPlacement}
-use Rattle.target_lexicon.specs.Field.{Architecture, OperatingSystem, Environment, BinaryFormat}
+use Rattle.target_lexicon.specs.{Parsing.IsExpectedAfter, Parsing.IsPlacement, declared.reading.Reading.Reading}
 use Rattle.target_lexicon.specs.Values.architecture
 use Rattle.target_lexicon.specs.Values.operating_system
 use Rattle.target_lexicon.specs.Values.environment
-use Rattle.target_lexicon.proofs.GreedyPlacement.{Fills, State, Stop, Take, after, field-after, filled-least}
-use Rattle.target_lexicon.proofs.GreedyPlacement.{first-strings, placement_prefix, start, start-first, strings_of}
-use Rattle.target_lexicon.proofs.GreedyPlacement.{texts-placed}
-use Rattle.target_lexicon.proofs.PartLemmas.{parts_of-are, parts_of-some}
-use Rattle.target_lexicon.proofs.SourceLemmas.{all-sources-in, placed-in}
 
 -- one more part that fills a field
 pub filled-next : {a b : State} {f : Field} {fs : List Field} {p : PlacedPart} {ps left : List PlacedPart}
@@ -44,8 +42,7 @@ merged-none s (p ∷ ps) = refl
 
 merged-next : (f : Field) (s : SourceValues) (fs : List Field) (p : PlacedPart) (ps : List PlacedPart)
     → part_at f ps fs ≡ None → merged (with_source f (FromPart p) s) ps fs ≡ merged s (p ∷ ps) (f ∷ fs)
-merged-next Architecture s fs p ps none = rw none refl
-merged-next f s fs p ps none = rw none refl
+merged-next f s fs p ps none = search rules
 
 pub absent-none : {A : Type 0} (f : Field) (xs : List A) → part_at f xs [] ≡ None
 absent-none f [] = refl
@@ -76,9 +73,7 @@ sources-filled complete keeps (Take {a = a} {f = f} {fs = fs} {p = p} {ps = ps} 
 finished-keeps : (e : Option Field) (f : Field) (p : PlacedPart) (s : SourceValues) → field_for e p.text ≡ Some f
     → finished_sources (expected_after f) (with_source f (FromPart p) s)
     ≡ with_source f (FromPart p) (finished_sources e s)
-finished-keeps None f p s found = absurd cc
-finished-keeps (Some x) BinaryFormat p s found = refl
-finished-keeps (Some x) f p s found = refl
+finished-keeps e f p s found = search rules
 
 -- each value is that of the part from which it comes, or that of an unfilled field; of a format that is still open
 -- nothing is known yet
@@ -105,16 +100,10 @@ first-parses (g ∷ gs) p f found =
     ]
 
 is-some : {A : Type 0} (o : Option A) (x : A) → is_some o ≡ true → o ≡ Some (unwrap_or o x)
-is-some None x is = absurd (false≢true is)
-is-some (Some y) x is = refl
+is-some o x is = search rules
 
 from-next : (f : Field) (p : PlacedPart) (a : State) → parses_as f p.text ≡ true → AreFrom a → AreFrom (after f p a)
-unfolding parses_as
-from-next Architecture p a is (x, v, s, e, f) = (is-some (architecture_of p.text) _ is, v, s, e, tt)
-from-next Vendor p a is (x, v, s, e, f) = (x, is-some (vendor_of p.text) _ is, s, e, tt)
-from-next OperatingSystem p a is (x, v, s, e, f) = (x, v, is-some (operating_system_of p.text) _ is, e, tt)
-from-next Environment p a is (x, v, s, e, f) = (x, v, s, is-some (environment_of p.text) _ is, tt)
-from-next BinaryFormat p a is (x, v, s, e, f) = (x, v, s, e, is-some (binary_format_of p.text) _ is)
+from-next f p a is is2 = search rules
 
 from-filled : {a b : State} {fs : List Field} {ps left : List PlacedPart} → Fills a fs ps b left → AreFrom a → AreFrom b
 from-filled Stop from = from
@@ -132,8 +121,7 @@ finish b = record {
 from-finished : (e : Option Field) (t : Values) (s : SourceValues)
     → AreFrom (record { expected = e; values = t; sources = s })
     → AreFrom (finish (record { expected = e; values = t; sources = s }))
-from-finished None t s from = from
-from-finished (Some x) t s (a, v, o, e, f) = (a, v, o, e, refl)
+from-finished e t s from = search rules
 
 text-at : (unfilled : SourceValue) → text_of unfilled ≡ None → (f : Field) (ps : List PlacedPart) (fs : List Field)
     → text_of (source_at unfilled f ps fs) ≡ part_at f (strings_of ps) fs

@@ -1,11 +1,11 @@
 -- Facts about all parsed triples: the vendor is plain, and the version in range.
-use Rattle.target_lexicon.proofs.Common.{[], ◌≢◌, IsLeastPlacement, dash, join_with_byte, ◌∙◌, ◌≡◌, List, None, Option}
-use Rattle.target_lexicon.proofs.Common.{Some, refl, subst, sym, true, ℕ, MatchOption, HasVersionInRange}
-use Rattle.target_lexicon.proofs.Common.{operating_system_of, is_plain, vendor_of, Unknown, Field, ArePartsOf}
-use Rattle.target_lexicon.proofs.Common.{HoldsParts, IsValueOf, ParsesAs, PartsParseAs, SpecialRow, special_triple}
-use Rattle.target_lexicon.proofs.Common.{special_values, Known, OperatingSystem, Values, VendorValue}
-use Rattle.target_lexicon.specs.Laws.{ReadVendorsArePlain}
+use Rattle.target_lexicon.proofs.Common.{IsLeastPlacement, IsValueOf, Known, List, MatchOption, None, OperatingSystem}
+use Rattle.target_lexicon.proofs.Common.{Option, ParsesAs, PartsParseAs, Some, SpecialRow, Unknown, Values, VendorValue}
+use Rattle.target_lexicon.proofs.Common.{[], dash, is_plain, join_with_byte, operating_system_of, refl, rules}
+use Rattle.target_lexicon.proofs.Common.{special_triple, special_values, subst, sym, true, vendor_of, ℕ}
+use Rattle.target_lexicon.proofs.Common.{◌∙◌, ◌≡◌, ◌≢◌, ArePartsOf, Field, HasVersionInRange, HoldsParts}
 use Rattle.target_lexicon.proofs.{SpecialRows.RowFacts, SpecialRows.row_of_text, Vendors.vendor-plain}
+use Rattle.target_lexicon.specs.Laws.{ReadVendorsArePlain}
 use Rattle.target_lexicon.specs.Values.operating_system
 
 -- a fact about the triples of special strings, and about all triples from parts, holds for all parsed triples
@@ -44,8 +44,7 @@ module _ (version-in_range : (text : List ℕ) (s : OperatingSystem) → operati
     → HasVersionInRange s) where
   placed-in_range : (part : Option (List ℕ)) (s : OperatingSystem)
       → IsValueOf operating_system_of operating_system.Unknown part s → HasVersionInRange s
-  placed-in_range None s is = rw is tt
-  placed-in_range (Some part) s is = version-in_range part s is
+  placed-in_range part s is = search rules
 
   pub read_in_range : (text : List ℕ) (t : Values) → ParsesAs text t → HasVersionInRange t.operating_system
   read_in_range =

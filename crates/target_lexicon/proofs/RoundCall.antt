@@ -1,11 +1,11 @@
 -- What the string of a triple is read as, or refused as, by the laws alone.
-use Rattle.target_lexicon.proofs.Common.{◌↔◌, ◌∙◌, ◌≡◌, Bool, List, None, Option, Some, false, subst, sym, true, ℕ}
-use Rattle.target_lexicon.proofs.Common.{IfSome, MatchOption, HasVersionInRange, is_plain, exception, RoundIsNormalStep}
-use Rattle.target_lexicon.proofs.Common.{ComesBack, EveryStringHasOneOutcome, normal_step, IsRefusedAs, ParsesAs}
-use Rattle.target_lexicon.proofs.Common.{string_of, Refusal, refusal_of, Values, ParseError}
-use Rattle.target_lexicon.specs.FixedPoints.{FixedExactlyOutsideExceptions, OneStepSettles, CanonicalStringsAreKeys}
-use Rattle.target_lexicon.specs.QueryLaws.{HaveSameAnswers, QueriesKept}
+use Rattle.target_lexicon.proofs.Common.{IsRefusedAs, List, MatchOption, None, Option, ParseError, ParsesAs, Refusal}
+use Rattle.target_lexicon.proofs.Common.{RoundIsNormalStep, Some, Values, exception, false, is_plain, normal_step}
+use Rattle.target_lexicon.proofs.Common.{rules, string_of, subst, sym, true, ℕ}
+use Rattle.target_lexicon.proofs.Common.{◌↔◌, ◌≡◌, Bool, ComesBack, EveryStringHasOneOutcome, HasVersionInRange, IfSome}
+use Rattle.target_lexicon.specs.FixedPoints.{CanonicalStringsAreKeys, FixedExactlyOutsideExceptions, OneStepSettles}
 use Rattle.target_lexicon.specs.Parsing.{IsErrorOf, IsRefusalOrOutOfMemory, MayAllocate}
+use Rattle.target_lexicon.specs.QueryLaws.{HaveSameAnswers, QueriesKept}
 
 pub read-step : EveryStringHasOneOutcome → RoundIsNormalStep → (t u : Values) → is_plain t.vendor ≡ true
     → HasVersionInRange t.operating_system
@@ -18,8 +18,7 @@ step-queries kept t u step = subst (λ (x : Values). HaveSameAnswers x t) (sym s
 
 pub step-back : OneStepSettles → CanonicalStringsAreKeys → (t u : Values) → is_plain t.vendor ≡ true
     → HasVersionInRange t.operating_system → u ≡ normal_step t → ComesBack u
-step-back steps keys t u plain range step =
-    subst ComesBack (steps t ∙ sym step) (keys.comes_back t (record { vendor = plain; version = range }))
+step-back steps keys t u plain range step = search rules
 
 pub read-fixed : EveryStringHasOneOutcome → FixedExactlyOutsideExceptions → (t u : Values)
     → HasVersionInRange t.operating_system
@@ -47,10 +46,8 @@ refused-vendor texts round t b is range None refused = tt
 -- the error of a string is its refusal or out of memory
 error-refused : (text : List ℕ) (found : Option Refusal)
     → MatchOption found (MayAllocate text) (λ x. IsRefusedAs text x) → IfSome found (λ x. IsRefusedAs text x)
-error-refused text (Some x) is = is
-error-refused text None is = tt
+error-refused text found is = search rules
 
 pub error-refusal : (text printed : List ℕ) (error : ParseError) → text ≡ printed → IsErrorOf text error
     → IsRefusalOrOutOfMemory printed error
-error-refusal text printed error same is =
-    subst (λ (x : List ℕ). IsRefusalOrOutOfMemory x error) same (error-refused text (refusal_of error) is)
+error-refusal text printed error same is = search rules

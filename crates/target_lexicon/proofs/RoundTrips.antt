@@ -1,24 +1,21 @@
 -- The shown parts of a triple with a plain vendor parse as its normal step, if no special string is printed.
+use Rattle.std.proofs.lemmas.Bool.{not-false}
 use Rattle.target_lexicon.proofs.Common
-use Common.{◌&&◌, ◌||◌, ◌∙◌, ◌∷◌, ◌≡◌, ◌≢◌, ◌⊎◌, Bool, List, None, Ok, Result, Some, [], ap, cond, false, inl, inr}
-use Common.{is_some, not, refl, subst, sym, true, true≢false, ℕ, and-false, and_parts, false≢true, not-true}
-use Common.{architecture_name, omits_system, binary_format_name, environment_name, HasVersionInRange}
-use Common.{operating_system_name, is_plain, vendor_name, vendor_of, Unknown, HasSystemOf, HidesNewlib, PrintsAsSpecial}
-use Common.{PrintsTheEspIdfString, ShowsOnlyNone, parses_as, reading_from, reading_of_parts, with_value}
-use Common.{default_binary_format, implied_format, elf_if_unknown, normal_step, step_of, cons_if, shown_names}
-use Common.{shows_binary_format, shows_environment, shows_operating_system, shows_unknowns, shows_vendor, Refusal}
-use Common.{SpecialRow, implies_newlib, special_string, Architecture, BinaryFormat, Environment, Known, OperatingSystem}
-use Common.{Values, VendorValue, is_same_format, is_unknown_vendor, unknown_values, values}
-use Rattle.target_lexicon.specs.{Printing.omits_unknown_vendor, ImpliedFormat.wasm_or_elf}
-use Rattle.std.proofs.lemmas.Bool.{or_parts, not-false}
-use Rattle.std.proofs.Math.Bool.{or-true}
+use Common.{Architecture, BinaryFormat, HasSystemOf, HidesNewlib, normal_step, reading_from, shows_vendor, vendor_name}
+use Common.{Environment, SpecialRow, VendorValue, and_parts, is_plain, shown_names, true≢false, vendor_of, with_value}
+use Common.{HasVersionInRange, and-false, architecture_name, binary_format_name, shows_binary_format, shows_environment}
+use Common.{Ok, OperatingSystem, PrintsAsSpecial, elf_if_unknown, environment_name, is_unknown_vendor, reading_of_parts}
+use Common.{PrintsTheEspIdfString, default_binary_format, implied_format, operating_system_name, shows_operating_system}
+use Common.{ShowsOnlyNone, implies_newlib, is_same_format, omits_system, shows_unknowns, special_string, unknown_values}
+use Common.{◌&&◌, ◌||◌, Known, Refusal, Result, Unknown, Values, cons_if, false, is_some, rules, step_of, subst, values}
+use Common.{◌∙◌, ◌∷◌, ◌≡◌, ◌≢◌, ◌⊎◌, Bool, List, None, Some, [], ap, cond, inl, inr, not, refl, sym, true, ℕ}
+use Rattle.target_lexicon.proofs.NamesAcross.{NamesAreRead, environment_of-format, operating_system_of-environment}
+use Rattle.target_lexicon.proofs.NamesAcross.{operating_system_of-format, system_as_vendor, vendor_of-operating_system}
 use Rattle.target_lexicon.proofs.PrintingLemmas.{names_after_system, printed_names}
-use Rattle.target_lexicon.proofs.NamesAcross.{NamesAreRead, environment_of-format, operating_system_of-format}
-use Rattle.target_lexicon.proofs.NamesAcross.{operating_system_of-environment, vendor_of-operating_system}
-use Rattle.target_lexicon.proofs.NamesAcross.{system_as_vendor}
-use Rattle.target_lexicon.proofs.SpecialRows.{RowFacts, special_of_fields, system_of_newlib, row_of_system}
-use Rattle.target_lexicon.proofs.SpecialRows.{special_system, newlib_system, no_newlib}
-use Rattle.target_lexicon.proofs.StepCases.{step_cases, outside-fixed, only_none-step, alone-shows}
+use Rattle.target_lexicon.proofs.SpecialRows.{RowFacts, newlib_system, no_newlib, row_of_system, special_of_fields}
+use Rattle.target_lexicon.proofs.SpecialRows.{special_system, system_of_newlib}
+use Rattle.target_lexicon.proofs.StepCases.{only_none-step, outside-fixed, step_cases}
+use Rattle.target_lexicon.specs.Printing.{omits_unknown_vendor}
 use Rattle.target_lexicon.specs.declared.exception.RoundTripException.TheVariants as exceptions
 use Rattle.target_lexicon.specs.Values.operating_system
 use Rattle.target_lexicon.specs.Values.environment
@@ -29,25 +26,14 @@ abbrev known_format : BinaryFormat → Bool
 known_format f = not (is_same_format f binary_format.Unknown)
 
 pub is_same_format-is : (f g : BinaryFormat) → is_same_format f g ≡ true → f ≡ g
--- written by tools/names/write: each format is itself
-is_same_format-is binary_format.Unknown binary_format.Unknown h = refl
-is_same_format-is binary_format.Elf binary_format.Elf h = refl
-is_same_format-is binary_format.Coff binary_format.Coff h = refl
-is_same_format-is binary_format.Macho binary_format.Macho h = refl
-is_same_format-is binary_format.Wasm binary_format.Wasm h = refl
-is_same_format-is binary_format.Xcoff binary_format.Xcoff h = refl
--- end of what is written
-is_same_format-is _ _ h = absurd (false≢true h)
+is_same_format-is f g h = search rules
 
 shown_by : (same too : Bool) (f g : BinaryFormat) → (same ≡ true → f ≡ g) → cond (not same || too) f g ≡ f
-shown_by true true f g h = refl
-shown_by true false f g h = sym (h refl)
-shown_by false too f g h = refl
+shown_by same too f g h = search rules
 
 -- the format is parsed back, shown or implied
 shown_or_implied : (t : Values) → cond (shows_binary_format t) t.binary_format (default_binary_format t)
     ≡ t.binary_format
-unfolding shows_binary_format
 shown_or_implied t =
     shown_by (is_same_format t.binary_format (default_binary_format t)) _ t.binary_format (default_binary_format t)
     (is_same_format-is t.binary_format (default_binary_format t))
@@ -55,8 +41,7 @@ shown_or_implied t =
 -- the fields that are unknown if both are shown as unknown
 pub are_unknown : (a : Architecture) (v : VendorValue) (s : OperatingSystem) (e : Environment) (f : BinaryFormat)
     → shows_unknowns (values a v s e f) ≡ true → (e ≡ environment.Unknown) × (f ≡ binary_format.Unknown)
-are_unknown a v s environment.Unknown binary_format.Unknown shown = (refl, refl)
-are_unknown a v s _ _ shown = absurd (false≢true shown)
+are_unknown a v s e f shown = search rules
 
 -- if no special string is printed
 
@@ -67,7 +52,6 @@ none-apart t none is = true≢false (sym (special_of_fields t is.fields) ∙ ap 
 not_shown : (a : Architecture) (v : VendorValue) (s : OperatingSystem) (e : Environment) (f : BinaryFormat)
     → special_string (values a v s e f) ≡ None → shows_environment (values a v s e f) ≡ false
     → (e ≡ environment.Unknown) ⊎ HidesNewlib (values a v s e f)
-unfolding shows_environment
 not_shown a v s environment.Unknown f none hidden = inl refl
 not_shown a v s environment.Newlib f none hidden = inr (record {
   environment = refl;
@@ -82,47 +66,34 @@ not_shown a v s _ f none hidden = absurd (true≢false (rw and-false at hidden))
 shown_unless_elf : (f : BinaryFormat)
     → cond (known_format f && (not (is_same_format f binary_format.Elf) || false)) f binary_format.Elf
     ≡ elf_if_unknown f
-shown_unless_elf binary_format.Unknown = refl
-shown_unless_elf _ = refl
+shown_unless_elf f = search rules
 
 shown_unless_unknown : (f i : BinaryFormat) (b : Bool)
     → (is_same_format f binary_format.Unknown && not (is_same_format f i)) ≡ false → cond b f i ≡ f
     → cond (known_format f && b) f i ≡ f
-shown_unless_unknown binary_format.Unknown binary_format.Unknown b hidden same = refl
-shown_unless_unknown binary_format.Unknown _ b hidden same = absurd cc
-shown_unless_unknown _ i b hidden same = same
+shown_unless_unknown f i b hidden same = search rules
 
 -- vendor and system that aren't shown
 
 unknown_vendor-is : (v : VendorValue) → is_unknown_vendor v ≡ true → v ≡ Known Unknown
-unknown_vendor-is (Known Unknown) is = refl
-unknown_vendor-is _ is = absurd (false≢true is)
+unknown_vendor-is v is = search rules
 
 hidden_vendor : (t : Values) → shows_vendor t ≡ false
     → (t.vendor ≡ Known Unknown) × (omits_unknown_vendor t.architecture t.operating_system t.environment ≡ true)
-unfolding shows_vendor
-hidden_vendor t h =
-    let by_rule = or_parts _ _ h in
-    let by_value = or_parts _ _ by_rule.0 in
-    (unknown_vendor-is t.vendor (not-false _ by_value.0), not-false _ by_rule.1)
+hidden_vendor t h = search rules
 
 no_vendor : (a : Architecture) (s : OperatingSystem) (e : Environment) → omits_unknown_vendor a s e ≡ true
     → system_as_vendor s ≡ None
-no_vendor a operating_system.Unknown e h = absurd (false≢true h)
-no_vendor a _ e h = refl
+no_vendor a s e h = search rules
 
 hidden_system : (a : Architecture) (v : VendorValue) (s : OperatingSystem) (e : Environment) (f : BinaryFormat)
     → shows_operating_system (values a v s e f) ≡ false
     → (s ≡ operating_system.Unknown) × (omits_system a ≡ true)
-unfolding shows_operating_system
-hidden_system a v operating_system.Unknown e f h = (refl, not-false _ h)
-hidden_system a v _ e f h = absurd (true≢false h)
+hidden_system a v s e f h = search rules
 
 -- if the system is shown
 shown_system : (t : Values) → shows_operating_system t ≡ true → ¬ ShowsOnlyNone t
-unfolding shows_operating_system
-shown_system t h is =
-    false≢true (sym (not-true _ h) ∙ rw is.operating_system is.architecture)
+shown_system t h is = search rules
 
 -- an unknown system implies no environment
 pub without_system : (v : VendorValue) → implies_newlib v operating_system.Unknown ≡ false
@@ -146,26 +117,17 @@ module _ (names : NamesAreRead) where
   format-read : (a : Architecture) (v : VendorValue) (s : OperatingSystem) (e : Environment)
       (f : BinaryFormat) (b : Bool) → reading_from (Some field.BinaryFormat) (values a v s e binary_format.Unknown)
       (cons_if b (binary_format_name f) []) ≡ Ok (values a v s e (cond b f (implied_format a s e)))
-  unfolding parses_as
-  format-read a v s e f true = rw (names.binary_format.reads_back f tt, names.binary_format.reads_back f tt) refl
-  format-read a v s e f false = refl
+  format-read a v s e f b = search rules
 
   shown-read : (a : Architecture) (v : VendorValue) (s : OperatingSystem) (e : Environment)
       (f : BinaryFormat) (b : Bool)
       → reading_from (Some field.Environment) (unread a v s) (environment_name e ∷ cons_if b (binary_format_name f) [])
       ≡ Ok (values a v s e (cond b f (implied_format a s e)))
-  unfolding parses_as
-  shown-read a v s e f b =
-      let read : with_value field.Environment (environment_name e) (unread a v s)
-      ≡ values a v s e binary_format.Unknown = rw (names.environment.reads_back e tt) refl in
-      rw (names.environment.reads_back e tt)
-      (ap (λ (t : Values). reading_from (Some field.BinaryFormat) t (cons_if b (binary_format_name f) [])) read
-      ∙ format-read a v s e f b)
+  shown-read a v s e f b = search rules
 
   hidden-read : (a : Architecture) (v : VendorValue) (s : OperatingSystem) (f : BinaryFormat) (b : Bool)
       → reading_from (Some field.Environment) (unread a v s) (cons_if b (binary_format_name f) [])
       ≡ Ok (values a v s environment.Unknown (cond (known_format f && b) f (implied_format a s environment.Unknown)))
-  unfolding parses_as
   hidden-read a v s binary_format.Unknown false = refl
   hidden-read a v s f false = refl
   hidden-read a v s binary_format.Unknown true =
@@ -178,7 +140,6 @@ module _ (names : NamesAreRead) where
       → reading_from (Some field.OperatingSystem) (unread a v operating_system.Unknown)
       (cons_if b (binary_format_name f) []) ≡ Ok (values a v operating_system.Unknown environment.Unknown
       (cond (known_format f && b) f (implied_format a operating_system.Unknown environment.Unknown)))
-  unfolding parses_as
   alone-read a v binary_format.Unknown false = refl
   alone-read a v f false = refl
   alone-read a v binary_format.Unknown true =
@@ -198,7 +159,6 @@ module _ (names : NamesAreRead) where
 
   row-read : (t : Values) (row : SpecialRow) → HasSystemOf row t → RowFacts row → t.environment ≡ environment.Newlib
       → ReadsAfter t (step_of (Some exceptions.HidesNewlib) t)
-  unfolding shows_environment shows_binary_format
   row-read t row is facts newlib =
       rw (
         newlib,
@@ -255,16 +215,7 @@ module _ (names : NamesAreRead) where
       → (b ≡ false → reading_from (Some field.Vendor) (unread a (Known Unknown) operating_system.Unknown) rest ≡ result)
       → reading_from (Some field.OperatingSystem) (unread a v operating_system.Unknown) rest ≡ result
       → reading_of_parts (architecture_name a ∷ cons_if b (vendor_name v) rest) ≡ result
-  unfolding parses_as
-  prefix a v true rest result plain hidden reads =
-      let read : with_value field.Vendor (vendor_name v) (unread a (Known Unknown) operating_system.Unknown)
-      ≡ unread a v operating_system.Unknown = rw (names.vendor.reads_back v plain) refl in
-      rw (names.architecture.reads_back a tt, names.vendor.reads_back v plain)
-      (ap (λ (t : Values). reading_from (Some field.OperatingSystem) t rest)
-      (ap (with_value field.Vendor (vendor_name v)) (first-read a) ∙ read) ∙ reads)
-  prefix a v false rest result plain hidden reads =
-      rw (names.architecture.reads_back a tt)
-      (ap (λ (t : Values). reading_from (Some field.Vendor) t rest) (first-read a) ∙ hidden refl)
+  prefix a v b rest result plain hidden reads = search rules
 
   -- if the system is shown, with these parts after it
   after_system : (a : Architecture) (v : VendorValue) (s : OperatingSystem) (e : Environment) (f : BinaryFormat)
@@ -272,7 +223,6 @@ module _ (names : NamesAreRead) where
       → reading_from (Some field.Environment) (unread a v s) rest ≡ result
       → reading_of_parts (architecture_name a ∷ cons_if (shows_vendor (values a v s e f)) (vendor_name v)
       (operating_system_name s ∷ rest)) ≡ result
-  unfolding parses_as
   after_system a v s e f rest result plain range reads =
       let read : (w : VendorValue)
       → with_value field.OperatingSystem (operating_system_name s) (unread a w operating_system.Unknown)
@@ -307,15 +257,12 @@ module _ (names : NamesAreRead) where
     -- after an environment `none` the format is shown, unless it is unknown
     none-shown : (v : VendorValue) (f : BinaryFormat) → cond (known_format f && shows_binary_format
         (alone a v environment.None f)) f binary_format.Unknown ≡ f
-    unfolding shows_binary_format implied_format
-    none-shown v binary_format.Unknown = refl
-    none-shown v f = rw ((alone-shows a omits).0, or-true (not (is_same_format f (wasm_or_elf a)))) refl
+    none-shown v f = search rules
 
     alone-reads : (v : VendorValue) (e : Environment) (f : BinaryFormat)
         → shows_unknowns (alone a v e f) ≡ false
         → reading_from (Some field.OperatingSystem) (unread a v operating_system.Unknown)
         (names_after_system false (alone a v e f)) ≡ Ok (normal_step (alone a v e f))
-    unfolding parses_as shows_environment shows_binary_format implied_format
     alone-reads v environment.Unknown f hidden = rw (alone-fixed a v environment.Unknown f (λ is. cc))
         (alone-read a v f _
         ∙ ap (λ x. Ok (values a v operating_system.Unknown environment.Unknown x))
@@ -331,7 +278,7 @@ module _ (names : NamesAreRead) where
 
     alone-round : (v : VendorValue) (e : Environment) (f : BinaryFormat) → is_plain v ≡ true
         → shows_unknowns (alone a v e f) ≡ false → Rounds false (alone a v e f)
-    unfolding shown_names shows_operating_system
+    unfolding shown_names
     alone-round v e f plain hidden = rw omits (prefix a v _ _ _ plain
         (λ h. absurd (let is = (hidden_vendor (alone a v e f) h).1 in cc))
         (alone-reads v e f hidden))

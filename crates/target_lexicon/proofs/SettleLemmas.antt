@@ -1,13 +1,12 @@
 -- A second step changes no triple.
-use Rattle.target_lexicon.proofs.Common.{◌≡◌, List, Option, Some, ap, refl, subst, sym, true, true≢false, ℕ}
-use Rattle.target_lexicon.proofs.Common.{HasVersionInRange, is_plain, Espressif, HasSpecialFields, HidesNewlib}
-use Rattle.target_lexicon.proofs.Common.{PrintsTheEspIdfString, RoundTripException, exception, RoundIsNormalStep}
-use Rattle.target_lexicon.proofs.Common.{ComesBack, normal_step, step_of, ParsesAs, string_of, special_string}
-use Rattle.target_lexicon.proofs.Common.{Architecture, BinaryFormat, Known, Values, VendorValue, values}
-use Rattle.target_lexicon.specs.FixedPoints.{IsPlainTriple, canonical_values, OneStepSettles, CanonicalStringsAreKeys}
-use Rattle.target_lexicon.proofs.SpecialRows.{fields_of_special, special_of_fields, row_of_system, special_system}
+use Rattle.target_lexicon.proofs.Common.{Architecture, BinaryFormat, HidesNewlib, RoundIsNormalStep, ap, special_string}
+use Rattle.target_lexicon.proofs.Common.{ComesBack, Espressif, VendorValue, normal_step, step_of, string_of, true≢false}
+use Rattle.target_lexicon.proofs.Common.{HasSpecialFields, HasVersionInRange, PrintsTheEspIdfString, RoundTripException}
+use Rattle.target_lexicon.proofs.Common.{Known, List, Option, ParsesAs, Some, Values, is_plain, refl, subst, values, ℕ}
+use Rattle.target_lexicon.proofs.SpecialRows.{fields_of_special, row_of_system, special_of_fields, special_system}
 use Rattle.target_lexicon.proofs.StepCases.{outside-fixed, special-own, step_cases}
-use Rattle.target_lexicon.proofs.UniqueReading.{values_unique}
+use Rattle.target_lexicon.proofs.{Common.◌≡◌, Common.sym, Common.true, UniqueReading.values_unique}
+use Rattle.target_lexicon.specs.FixedPoints.{CanonicalStringsAreKeys, IsPlainTriple, OneStepSettles, canonical_values}
 use Rattle.target_lexicon.specs.declared.exception.RoundTripException.TheVariants as exceptions
 use Rattle.target_lexicon.specs.Values.architecture
 use Rattle.target_lexicon.specs.Values.riscv32
@@ -27,7 +26,7 @@ special-stays t has =
 esp_idf-stays : let u =
     values (architecture.Riscv32 riscv32.Riscv32imc) (Known Espressif) operating_system.Espidf environment.Newlib
     binary_format.Elf in normal_step u ≡ u
-unfolding normal_step exception special_string
+unfolding normal_step special_string
 esp_idf-stays = refl
 
 -- with an unknown environment only the special strings decide whether a triple is unchanged

@@ -1,14 +1,13 @@
 -- The sources that are parts are in the string.
-use Rattle.target_lexicon.proofs.Common
-use Common.{◌++◌, ◌+◌, ◌-◌, ◌∙◌, ◌∷◌, ◌≡◌, List, Some, [], ap, append_assoc, arith, drop, inl, inr, length, nat_eq}
-use Common.{refl, subst, suc, sym, take, zero, ℕ, cases_Bool, length-append, join_with_byte, slice_get, dash}
-use Common.{IsRefusedAfter, NotGiven, PlacedPart, SourceValues, placed_from, sources_at, Field, Vendor, field_number}
-use Common.{ArePartsOf, Refusal}
-use Rattle.std.proofs.Math.Seq.{take-append_seam, drop-append_seam}
-use Rattle.std.proofs.lemmas.List.{append-nil}
-use Rattle.target_lexicon.specs.Field.{Architecture, OperatingSystem, Environment, BinaryFormat}
-use Rattle.target_lexicon.specs.Explanation.{part_from, SourceValue, source_at, IsInString, IsSourceInString}
-use Rattle.target_lexicon.specs.Explanation.{AreInString}
+use Rattle.std.proofs.{lemmas.Grind.common_steps, lemmas.List.append-nil}
+use Rattle.target_lexicon.proofs.Common.{NotGiven, PlacedPart, Refusal, Some, SourceValues, Vendor, [], ap}
+use Rattle.target_lexicon.proofs.Common.{append_assoc, arith, cases_Bool, dash, drop, field_number, inl, inr}
+use Rattle.target_lexicon.proofs.Common.{join_with_byte, length, length-append, nat_eq, placed_from, refl, slice_get}
+use Rattle.target_lexicon.proofs.Common.{sources_at, subst, suc, sym, take, zero, ℕ}
+use Rattle.target_lexicon.proofs.Common.{◌++◌, ◌+◌, ◌-◌, ◌∙◌, ◌∷◌, ◌≡◌, ArePartsOf, Field, IsRefusedAfter, List}
+use Rattle.target_lexicon.specs.Explanation.{AreInString, IsInString, IsSourceInString, SourceValue, part_from}
+use Rattle.target_lexicon.specs.Explanation.{source_at}
+use Rattle.target_lexicon.specs.Field.{Architecture, BinaryFormat, Environment, OperatingSystem}
 
 -- the parts, joined by dashes, are the end of the string from `start` on; there may be none
 abbrev AreAt : List ℕ → ℕ → List (List ℕ) → Type 0
@@ -18,18 +17,12 @@ AreAt text start (p ∷ ps) =
 
 range-at : (before p rest : List ℕ)
     → take (length before + length p - length before) (drop (length before) (before ++ (p ++ rest))) ≡ p
-range-at before p rest =
-    let size : length before + length p - length before ≡ length p = omega arith in
-    ap (λ n. take n (drop (length before) (before ++ (p ++ rest)))) size
-    ∙ ap (take (length p)) (drop-append_seam before (p ++ rest)) ∙ take-append_seam p rest
+range-at before p rest = grind (arith, common_steps)
 
 -- a part that is followed by these bytes
 part-in : (text before p rest : List ℕ) (start : ℕ) → length before ≡ start → text ≡ before ++ (p ++ rest)
     → IsInString text (part_from start p)
-part-in text before p rest start at is =
-    let whole = length-append before (p ++ rest) in
-    let inner = length-append p rest in
-    rw (← at, is) (omega (arith, whole, inner), range-at before p rest)
+part-in text before p rest start at is = grind (arith, common_steps)
 
 -- the first of the parts, and those after it
 first-in : (text : List ℕ) (start : ℕ) (p : List ℕ) (ps : List (List ℕ)) → AreAt text start (p ∷ ps)

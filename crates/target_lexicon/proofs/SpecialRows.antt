@@ -1,28 +1,20 @@
 -- Facts of the special strings, one after the other. All that other lemmas know of these strings is here, so that they
 -- say "each row".
+use Rattle.lexicon_fields.specs.{ArchitectureQueries.architecture_width, Names.value_named, Vendor.known_vendor_name}
 use Rattle.target_lexicon.proofs.Common
-use Common.{◌+◌, ◌<◌, ◌^◌, ◌∙◌, ◌∷◌, ◌≡◌, ◌≤◌, Bool, Err, List, Ok, Option, Result, Some, [], ap, arith, cond, false}
-use Common.{inl, inr, is_some, length, map, refl, sym, true, ℕ, cases_Bool, false≢true, bytes_eq-Decides, bytes_eq}
-use Common.{architecture_name, architecture_of, binary_format_of, environment_of, HasVersionInRange}
-use Common.{fixed_operating_system_of, operating_system_name, operating_system_of, is_admitted, known_vendor_of}
-use Common.{vendor_of, U32, HasFieldsOf, HasSpecialFields, HasSystemOf, is_custom_esp, parses_as, reading_of_parts}
-use Common.{implied_format, parts_of, Refusal, SpecialRow, implies_newlib, special_string, special_triple}
-use Common.{special_values, Architecture, BinaryFormat, Environment, Known, OperatingSystem, Values, VendorValue}
-use Common.{is_unknown_vendor, values, ◌⊎◌, None}
+use Common.{HasSpecialFields, HasSystemOf, HasVersionInRange, Known, List, None, Ok, OperatingSystem, Option, Refusal}
+use Common.{Result, Some, SpecialRow, U32, Values, VendorValue, [], ap, architecture_name, architecture_of, arith}
+use Common.{binary_format_of, bytes_eq, cases_Bool, cond, environment_of, false, false≢true, fixed_operating_system_of}
+use Common.{implied_format, implies_newlib, inl, inr, is_admitted, is_custom_esp, is_some, is_unknown_vendor}
+use Common.{known_vendor_of, length, map, operating_system_name, operating_system_of, parts_of, reading_of_parts, refl}
+use Common.{rules, special_string, special_triple, special_values, sym, true, values, vendor_of, ℕ}
+use Common.{◌+◌, ◌<◌, ◌^◌, ◌∙◌, ◌∷◌, ◌≡◌, ◌≤◌, ◌⊎◌, Architecture, BinaryFormat, Bool, Environment, Err, HasFieldsOf}
 use Rattle.target_lexicon.proofs.GreedyPlacement.{cases_Option}
-use Rattle.lexicon_fields.specs.{Names.value_named, Vendor.known_vendor_name, ArchitectureQueries.architecture_width}
-use Rattle.target_lexicon.specs.{SpecialStrings.special_rows, SpecialStrings.special_pair, ExceptionFacts.SomeRow}
-use Rattle.target_lexicon.specs.{Printing.is_none_or_unknown}
-use Rattle.lexicon_fields.specs.declared.known_vendor.KnownVendor.TheVariants as known_vendor
+use Rattle.target_lexicon.specs.SpecialStrings.{special_pair, special_rows}
+use Rattle.target_lexicon.specs.{ExceptionFacts.SomeRow, Printing.is_none_or_unknown}
 use Rattle.target_lexicon.specs.Values.architecture
-use Rattle.target_lexicon.specs.Values.operating_system
 use Rattle.target_lexicon.specs.Values.environment
 use Rattle.target_lexicon.specs.Values.binary_format
--- written by tools/names/write: families of special strings in proofs
-use Rattle.target_lexicon.specs.Values.arm
-use Rattle.target_lexicon.specs.Values.riscv32
-
--- end of what is written
 
 -- the parts of a special string are refused, or give a triple that is known to print the string
 abbrev pub is_known_to_print : Result Values Refusal → Bool
@@ -55,8 +47,8 @@ EachRow P [] = Unit {0}
 EachRow P (row ∷ rows) = P row × EachRow P rows
 
 row-facts : EachRow RowFacts special_rows
-unfolding special_values special_string implies_newlib implied_format parses_as architecture_of vendor_of
-    known_vendor_of is_admitted operating_system_of fixed_operating_system_of environment_of binary_format_of
+unfolding special_values special_string architecture_of vendor_of known_vendor_of is_admitted operating_system_of
+    fixed_operating_system_of environment_of binary_format_of
 -- written by tools/names/write: facts of special strings
 row-facts = (
   record {
@@ -96,25 +88,12 @@ row-facts = (
 fields-by : (a : Architecture) (v : VendorValue) (s : OperatingSystem) (e : Environment) (f : BinaryFormat)
     → is_some (special_string (values a v s e f)) ≡ true → HasSpecialFields (values a v s e f)
 unfolding special_string
--- written by tools/names/write: fields of special strings
-fields-by (architecture.Arm arm.Armv6k) (Known known_vendor.Nintendo) operating_system.Horizon e f is =
-    inl (record { architecture = refl; system = record { vendor = refl; operating_system = refl } })
-fields-by (architecture.Riscv32 riscv32.Riscv32imc) (Known known_vendor.Espressif) operating_system.Espidf e f is =
-    inr (inl (record { architecture = refl; system = record { vendor = refl; operating_system = refl } }))
--- end of what is written
-fields-by _ _ _ e f is = absurd (false≢true is)
+fields-by a v s e f is = search rules
 
 -- a vendor and a system that imply `Newlib` are those of a row
 system-by : (a : Architecture) (v : VendorValue) (s : OperatingSystem) (e : Environment) (f : BinaryFormat)
     → implies_newlib v s ≡ true → SomeRow (λ row. HasSystemOf row (values a v s e f)) special_rows
-unfolding implies_newlib
--- written by tools/names/write: systems of special strings
-system-by a (Known known_vendor.Nintendo) operating_system.Horizon e f is =
-    inl (record { vendor = refl; operating_system = refl })
-system-by a (Known known_vendor.Espressif) operating_system.Espidf e f is =
-    inr (inl (record { vendor = refl; operating_system = refl }))
--- end of what is written
-system-by a _ _ e f is = absurd (false≢true is)
+system-by a v s e f is = search rules
 
 -- what holds for each row holds for one that has the property
 of_row : (P Q : SpecialRow → Type 0) (rows : List SpecialRow) → EachRow Q rows → SomeRow P rows
@@ -196,9 +175,7 @@ IsTripleOf text t = (row : SpecialRow) × (text ≡ row.text) × (t ≡ special_
 special-by : (text : List ℕ) (t : Values) (row : SpecialRow) (others : Option Values) (b : Bool)
     → bytes_eq text row.text ≡ b → RowFacts row
     → (others ≡ Some t → IsTripleOf text t) → cond b (Some (special_triple row)) others ≡ Some t → IsTripleOf text t
-special-by text t row others true same facts later is =
-    (row, (bytes_eq-Decides text row.text).0 same, (let of : special_triple row ≡ t = cc in sym of), facts)
-special-by text t row others false other facts later is = later is
+special-by text t row others b other facts later is = search rules
 
 special-is : (text : List ℕ) (t : Values) (rows : List SpecialRow) → EachRow RowFacts rows
     → value_named (map special_pair rows) text ≡ Some t → IsTripleOf text t

@@ -1,26 +1,26 @@
 -- From the exception of a triple to the facts of its five fields, and back. So what holds in the case of each
 -- exception, and outside them, holds for the step.
 use Rattle.target_lexicon.proofs.Common
-use Common.{◌&&◌, ◌∙◌, ◌≡◌, ◌⊎◌, Bool, List, None, Option, Some, ap, codes, cond, false, inl, inr, is_some, refl, subst}
-use Common.{sym, true, ℕ, and-false, and_parts, cases_Bool, false≢true, bytes_eq-Decides, architecture_of, omits_system}
-use Common.{binary_format_of, environment_of, fixed_operating_system_of, operating_system_of, is_admitted, is_plain}
-use Common.{known_vendor_of, HasSpecialFields, HidesNewlib, PrintsAsSpecial, PrintsTheEspIdfString, ShowsOnlyNone}
-use Common.{RoundTripException, exception, is_custom_esp, normal_step, step_of, implies_newlib, special_string}
-use Common.{Architecture, BinaryFormat, Custom, Environment, OperatingSystem, Values, VendorValue, omits_unknown_system}
-use Common.{is_same_format, values}
-use Rattle.target_lexicon.specs.ExceptionFacts.{HasNewlibAndElf, VendorIsNotPlain, ExceptionsAreFactsOfFields}
-use Rattle.target_lexicon.specs.{Values.is_newlib, Values.is_none_environment, Exceptions.has_newlib_and_elf}
-use Rattle.target_lexicon.specs.{Printing.architecture_implies_format, Queries.wasm_convention}
-use Rattle.target_lexicon.proofs.SpecialRows.{row_of_fields, row_of_system, fields_of_special, special_of_fields}
-use Rattle.target_lexicon.proofs.SpecialRows.{no_special, system_of_newlib, newlib_of_system, special_system}
+use Common.{Architecture, BinaryFormat, Environment, HidesNewlib, VendorValue, ap, cases_Bool, is_admitted, normal_step}
+use Common.{Custom, Option, Values, and-false, and_parts, exception, false≢true, is_plain, is_some, step_of, values, ℕ}
+use Common.{HasSpecialFields, PrintsAsSpecial, RoundTripException, architecture_of, binary_format_of, known_vendor_of}
+use Common.{OperatingSystem, ShowsOnlyNone, implies_newlib, is_custom_esp, is_same_format, omits_system, special_string}
+use Common.{PrintsTheEspIdfString, environment_of, fixed_operating_system_of, omits_unknown_system, operating_system_of}
+use Common.{◌&&◌, ◌∙◌, ◌≡◌, ◌⊎◌, Bool, List, None, Some, codes, cond, false, inl, inr, refl, rules, subst, sym, true}
+use Rattle.target_lexicon.proofs.SpecialRows.{fields_of_special, newlib_of_system, no_special, row_of_fields}
+use Rattle.target_lexicon.proofs.SpecialRows.{row_of_system, special_of_fields, system_of_newlib}
+use Rattle.target_lexicon.specs.ExceptionFacts.{ExceptionsAreFactsOfFields, HasNewlibAndElf, VendorIsNotPlain}
+use Rattle.target_lexicon.specs.{Exceptions.has_newlib_and_elf, Printing.architecture_implies_format}
+use Rattle.target_lexicon.specs.{Queries.wasm_convention, Values.is_newlib, Values.is_none_environment}
 use Rattle.target_lexicon.specs.declared.exception.RoundTripException.TheVariants as exceptions
 use Rattle.target_lexicon.specs.Values.architecture
 use Rattle.target_lexicon.specs.Values.riscv32
--- written by tools/names/write: families that omit an unknown system
--- end of what is written
 use Rattle.target_lexicon.specs.Values.operating_system
 use Rattle.target_lexicon.specs.Values.environment
 use Rattle.target_lexicon.specs.Values.binary_format
+
+-- written by tools/names/write: families that omit an unknown system
+-- end of what is written
 
 -- from the exception to the facts
 
@@ -39,20 +39,16 @@ newlib-plain : (t : Values) → HidesNewlib t → is_plain t.vendor ≡ true
 newlib-plain t is = rw ((row_of_system t is.system).1.vendor) refl
 
 pub newlib-is : (e : Environment) → is_newlib e ≡ true → e ≡ environment.Newlib
-newlib-is environment.Newlib is = refl
-newlib-is _ is = absurd (false≢true is)
+newlib-is e is = search rules
 
 elf-is : (f : BinaryFormat) → is_same_format f binary_format.Elf ≡ true → f ≡ binary_format.Elf
-elf-is binary_format.Elf is = refl
-elf-is _ is = absurd (false≢true is)
+elf-is f is = search rules
 
 pub both-is : (t : Values) → has_newlib_and_elf t ≡ true → HasNewlibAndElf t
-both-is t is = let parts = and_parts (is_newlib t.environment) _ is in
-    (newlib-is t.environment parts.0, elf-is t.binary_format parts.1)
+both-is t is = search rules
 
 none-is : (e : Environment) → is_none_environment e ≡ true → e ≡ environment.None
-none-is environment.None is = refl
-none-is _ is = absurd (false≢true is)
+none-is e is = search rules
 
 abbrev on_esp_idf : List ℕ → Values
 on_esp_idf text =
@@ -61,14 +57,11 @@ on_esp_idf text =
 
 pub esp-is : (a : Architecture) (v : VendorValue) (s : OperatingSystem) (e : Environment) (f : BinaryFormat)
     → is_custom_esp a v s e f ≡ true → values a v s e f ≡ on_esp_idf (codes "esp")
-esp-is (architecture.Riscv32 riscv32.Riscv32imc) (Custom text) operating_system.Espidf environment.Unknown
-    binary_format.Elf is = ap on_esp_idf ((bytes_eq-Decides text (codes "esp")).0 is)
-esp-is _ _ _ _ _ is = absurd (false≢true is)
+esp-is a v s e f is = search rules
 
 alone-is : (a : Architecture) (s : OperatingSystem) → omits_unknown_system a s ≡ true
     → (omits_system a ≡ true) × (s ≡ operating_system.Unknown)
-alone-is a operating_system.Unknown is = (is, refl)
-alone-is a _ is = absurd (false≢true is)
+alone-is a s is = search rules
 
 -- the tests of the list of exceptions, one after the other
 facts-by : (t : Values) (special both newlib esp none plain : Bool)
@@ -101,7 +94,6 @@ facts-by t false both false false false true is_s is_b is_n is_e is_o is_p = is_
 facts-by t false both false false false false is_s is_b is_n is_e is_o is_p = is_p
 
 pub facts : (t : Values) → FactsOf (exception t) t
-unfolding exception
 facts t = facts-by t _ _ _ _ _ _ refl refl refl refl refl refl
 
 -- from the facts to the exception
@@ -110,41 +102,32 @@ not_both : (t : Values) → ¬ HasNewlibAndElf t → has_newlib_and_elf t ≡ fa
 not_both t others = elim (cases_Bool (has_newlib_and_elf t)) [ inl is ↦ absurd (others (both-is t is)) | inr is ↦ is ]
 
 pub special-exception : (t : Values) → PrintsAsSpecial t → exception t ≡ Some exceptions.PrintsAsSpecial
-unfolding exception
 special-exception t is = rw (special_of_fields t is.fields, not_both t is.others) refl
 
 -- with the special string's own environment and format
 pub special-own : (t : Values) → HasSpecialFields t → HasNewlibAndElf t → exception t ≡ None
-unfolding exception
 special-own t has is = rw (special_of_fields t has, is.0, is.1) refl
 
 pub newlib-exception : (t : Values) → HidesNewlib t → exception t ≡ Some exceptions.HidesNewlib
-unfolding exception
 newlib-exception t is = rw (no_special t is.others, newlib_of_system t is.system, is.environment) refl
 
 pub esp-exception : (t : Values) → PrintsTheEspIdfString t → exception t ≡ Some exceptions.PrintsTheEspIdfString
-unfolding exception special_string implies_newlib
+unfolding special_string
 esp-exception t is = ap exception is
 
 unknown_system-other : (t : Values) → t.operating_system ≡ operating_system.Unknown → ¬ HasSpecialFields t
-unknown_system-other t unknown special = let known = special_system t special in
-    false≢true (sym known ∙ rw unknown refl)
+unknown_system-other t unknown special = search rules
 
 alone-other : (a : Architecture) (v : VendorValue) (f : BinaryFormat)
     → is_custom_esp a v operating_system.Unknown environment.None f ≡ false
-alone-other (architecture.Riscv32 riscv32.Riscv32imc) (Custom text) f = refl
-alone-other _ v f = refl
+alone-other a v f = search rules
 
 -- an architecture that omits an unknown system shows the implied format, and decides no convention
 pub alone-shows : (a : Architecture) → omits_system a ≡ true
     → (architecture_implies_format a ≡ false) × (wasm_convention a ≡ None)
--- written by tools/names/write: each architecture that omits an unknown system
-alone-shows (architecture.Clever _) is = (refl, refl)
--- end of what is written
-alone-shows _ is = absurd (false≢true is)
+alone-shows a is = search rules
 
 pub only_none-exception : (t : Values) → ShowsOnlyNone t → exception t ≡ Some exceptions.ShowsOnlyNone
-unfolding exception
 only_none-exception t is =
     rw (
       no_special t (unknown_system-other t is.operating_system),
@@ -165,19 +148,14 @@ pub record IsOutside (t : Values) : Type 0 where
 -- the exception of a triple that is outside
 outside-exception : (t : Values) (found : Option RoundTripException) → FactsOf found t → IsOutside t
     → found ≡ cond (is_plain t.vendor) None (Some exceptions.VendorIsNotPlain)
-outside-exception t (Some exceptions.PrintsAsSpecial) is outside = absurd (outside.special is)
-outside-exception t (Some exceptions.HidesNewlib) is outside = absurd (outside.newlib is)
-outside-exception t (Some exceptions.PrintsTheEspIdfString) is outside = absurd (outside.esp is)
-outside-exception t (Some exceptions.ShowsOnlyNone) is outside = absurd (outside.none is)
-outside-exception t (Some exceptions.VendorIsNotPlain) is outside = rw is refl
-outside-exception t None is outside = rw is refl
+outside-exception t found is outside = search rules
 
 pub plain-exception : (t : Values) → is_plain t.vendor ≡ true → IsOutside t → exception t ≡ None
 plain-exception t plain outside = outside-exception t (exception t) (facts t) outside ∙ rw plain refl
 
 esp-plain : (t : Values) → PrintsTheEspIdfString t → is_plain t.vendor ≡ true
-unfolding is_admitted known_vendor_of architecture_of operating_system_of fixed_operating_system_of environment_of
-    binary_format_of
+unfolding is_admitted known_vendor_of architecture_of operating_system_of fixed_operating_system_of
+    environment_of binary_format_of
 esp-plain t is = rw is refl
 
 pub vendor-exception : (t : Values) → VendorIsNotPlain t → exception t ≡ Some exceptions.VendorIsNotPlain

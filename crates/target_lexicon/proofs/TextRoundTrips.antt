@@ -1,22 +1,21 @@
 -- The printed string of a triple with a plain vendor reads as its normal step.
-use Rattle.target_lexicon.proofs.Common
-use Common.{◌∷◌, ◌||◌, ◌∙◌, ◌≡◌, ◌⊎◌, Bool, List, None, Ok, Option, Some, [], ap, codes, false, inl, inr, is_some, refl}
-use Common.{subst, sym, true, true≢false, ℕ, cases_Bool, false≢true, join_with_byte, architecture_name}
-use Common.{binary_format_name, environment_name, HasVersionInRange, dash, operating_system_name, is_plain}
-use Common.{HasSpecialFields, PrintsTheEspIdfString, RoundTripException, exception, is_custom_esp, parses_as}
-use Common.{RoundIsNormalStep, reading, reading_of_parts, implied_format, elf_if_unknown, normal_step, step_of}
-use Common.{ParsesAs, parts_of, cons_if, shown_names, shows_binary_format, shows_environment, shows_operating_system}
-use Common.{shows_unknowns, shows_vendor, string_of, implies_newlib, special_string, special_triple, special_values}
-use Common.{Architecture, BinaryFormat, Custom, Environment, OperatingSystem, Values, VendorValue, values}
-use Rattle.std.specs.List.{list_all}
-use Rattle.target_lexicon.specs.{Exceptions.has_newlib_and_elf, GreedyReading.reading_unless_special}
 use Rattle.lexicon_fields.specs.{Names.is_dash_free, Vendor.is_custom}
-use Rattle.target_lexicon.proofs.SpecialRows.{is_known_to_print, prints_row, row_of_fields, row_of_system, row_of_text}
-use Rattle.target_lexicon.proofs.SpecialRows.{fields_of_special, special_of_fields, no_special, special_system}
-use Rattle.target_lexicon.proofs.StepCases.{both-is, esp-is, special-own, special-exception, step_cases, is_esp}
+use Rattle.std.specs.List.{list_all}
+use Rattle.target_lexicon.proofs.Common
+use Common.{Architecture, is_custom_esp, shows_unknowns, shows_vendor, special_string, special_triple, special_values}
+use Common.{BinaryFormat, Environment, Option, VendorValue, cases_Bool, false≢true, normal_step, shown_names, string_of}
+use Common.{HasVersionInRange, RoundIsNormalStep, RoundTripException, architecture_name, binary_format_name, true≢false}
+use Common.{PrintsTheEspIdfString, environment_name, operating_system_name, shows_binary_format, shows_operating_system}
+use Common.{◌||◌, ◌≡◌, ◌⊎◌, Bool, List, None, Ok, Some, [], ap, dash, inl, inr, refl, rules, sym, true, ℕ}
+use Common.{◌∙◌, Custom, ParsesAs, Values, codes, cons_if, false, is_plain, is_some, parts_of, reading, step_of, values}
+use Common.{◌∷◌, HasSpecialFields, OperatingSystem, elf_if_unknown, join_with_byte, reading_of_parts, shows_environment}
+use Rattle.target_lexicon.proofs.SameValues.{same_values}
+use Rattle.target_lexicon.proofs.SpecialRows.{fields_of_special, is_known_to_print, special_of_fields, special_system}
+use Rattle.target_lexicon.proofs.SpecialRows.{no_special, prints_row, row_of_fields, row_of_system, row_of_text}
+use Rattle.target_lexicon.proofs.StepCases.{both-is, is_esp, special-exception, special-own, step_cases}
 use Rattle.target_lexicon.proofs.{ComputedReading.reading_computed, NamesAcross.NamesAreRead}
 use Rattle.target_lexicon.proofs.{PartLemmas.parts_of-joined, PrintingLemmas.printed_names, RoundTrips.parts-round}
-use Rattle.target_lexicon.proofs.{SameValues.same_values}
+use Rattle.target_lexicon.specs.{Exceptions.has_newlib_and_elf, GreedyReading.reading_unless_special}
 use Rattle.target_lexicon.specs.declared.exception.RoundTripException.TheVariants as exceptions
 use Rattle.target_lexicon.specs.Values.architecture
 use Rattle.target_lexicon.specs.Values.riscv32
@@ -32,8 +31,7 @@ parts_of-join p ps free others = parts_of-joined p ps (rw (free, others) refl)
 
 cons_if-free : (b : Bool) (p : List ℕ) (ps : List (List ℕ)) → is_dash_free p ≡ true → list_all is_dash_free ps ≡ true
     → list_all is_dash_free (cons_if b p ps) ≡ true
-cons_if-free true p ps free others = rw (free, others) refl
-cons_if-free false p ps free others = others
+cons_if-free b p ps free others = search rules
 
 -- the special strings, and the triples that print them
 
@@ -65,8 +63,7 @@ custom_esp =
     binary_format.Elf
 
 custom_esp-round : reading (string_of custom_esp) ≡ Ok (normal_step custom_esp)
-unfolding reading parses_as string_of special_string special_values implies_newlib shown_names shows_vendor
-    shows_operating_system shows_environment shows_binary_format implied_format exception normal_step
+unfolding reading string_of special_string special_values shown_names normal_step
 custom_esp-round = refl
 
 -- a string that isn't special is parsed by its parts
@@ -84,22 +81,15 @@ by_parts text ps t (Some s) is are reads apart =
 
 no_esp : (t : Values) → ¬ PrintsTheEspIdfString t
     → is_custom_esp t.architecture t.vendor t.operating_system t.environment t.binary_format ≡ false
-no_esp t apart =
-    elim (cases_Bool (is_custom_esp t.architecture t.vendor t.operating_system t.environment t.binary_format)) [
-      | inl is ↦ absurd (apart (esp-is t.architecture t.vendor t.operating_system t.environment t.binary_format is))
-      | inr is ↦ is
-    ]
+no_esp t apart = search rules
 
 no_esp-known : (a : Architecture) (v : VendorValue) (s : OperatingSystem) (e : Environment) (f : BinaryFormat)
     → is_custom v ≡ false → is_custom_esp a v s e f ≡ false
-no_esp-known a v s e f known =
-    no_esp (values a v s e f) (λ is. let of = ap (λ x. x.vendor) is in false≢true (sym known ∙ rw of refl))
+no_esp-known a v s e f known = search rules
 
 no_esp-none : (a : Architecture) (v : VendorValue) (f : BinaryFormat)
     → is_custom_esp a v operating_system.None_ environment.Unknown f ≡ false
-no_esp-none a v f =
-    no_esp (values a v operating_system.None_ environment.Unknown f)
-    (λ is. let of = ap (λ x. x.operating_system) is in cc)
+no_esp-none a v f = search rules
 
 module _ (names : NamesAreRead) (a : Architecture) (v : VendorValue) (s : OperatingSystem) (e : Environment)
     (f : BinaryFormat) (plain : is_plain v ≡ true) (range : HasVersionInRange s)
@@ -154,5 +144,4 @@ round names t plain =
 
 pub round_by_step : RoundIsNormalStep → (t u : Values) → is_plain t.vendor ≡ true → HasVersionInRange t.operating_system
     → u ≡ normal_step t → ParsesAs (string_of t) u
-round_by_step round t u plain range is =
-    subst (λ (x : Values). ParsesAs (string_of t) x) (sym is) (round t (record { vendor = plain; version = range }))
+round_by_step round t u plain range is = search rules

@@ -1,17 +1,16 @@
 -- A string has at most one outcome.
-use Rattle.target_lexicon.proofs.Common
-use Common.{◌<◌, ◌∙◌, ◌∷◌, ◌≡◌, List, None, Option, Some, [], ap, arith, refl, subst, sym, take, ℕ, MatchOption}
-use Common.{slice_get, architecture_of, binary_format_of, environment_of, operating_system_of, vendor_of, Field}
-use Common.{default_binary_format, ArePartsOf, HasPlacement, HoldsParts, IsRefusal, IsRefusedAs, IsValueOf, ParsesAs}
-use Common.{PartsParseAs, expected_after, last_field, parts_of, Refusal, refusal_with, special_values, Values}
+use Rattle.target_lexicon.proofs.Common.{ArePartsOf, HoldsParts, IsRefusedAs, MatchOption, ap, last_field, refusal_with}
+use Rattle.target_lexicon.proofs.Common.{HasPlacement, PartsParseAs, [], environment_of, expected_after, special_values}
+use Rattle.target_lexicon.proofs.Common.{IsRefusal, IsValueOf, ParsesAs, Refusal, parts_of, slice_get, subst, vendor_of}
+use Rattle.target_lexicon.proofs.Common.{architecture_of, binary_format_of, default_binary_format, operating_system_of}
+use Rattle.target_lexicon.proofs.Common.{◌∙◌, ◌∷◌, ◌≡◌, Field, List, None, Option, Some, Values, refl, rules, sym, take}
+use Rattle.target_lexicon.proofs.GreedyPlacement.{least-unique, placement_prefix}
+use Rattle.target_lexicon.proofs.{Common.ℕ, PartLemmas.parts-only, SameValues.same_values}
 use Rattle.target_lexicon.specs.Parsing.{IsExpectedAfter, IsRefused}
-use Rattle.target_lexicon.proofs.{GreedyPlacement.placement_prefix, GreedyPlacement.least-unique, PartLemmas.parts-only}
-use Rattle.target_lexicon.proofs.{SameValues.same_values}
 
 same_value : {A : Type 0} (find : List ℕ → Option A) (d e : A) (o : Option (List ℕ)) (x y : A) → d ≡ e
     → IsValueOf find d o x → IsValueOf find e o y → x ≡ y
-same_value find d e None x y same h k = h ∙ same ∙ sym k
-same_value find d e (Some p) x y same h k = cc
+same_value find d e o x y same h k = search rules
 
 same_held : (parts : List (List ℕ)) (fields : List Field) (t u : Values) → HoldsParts parts fields t
     → HoldsParts parts fields u → t ≡ u
@@ -44,10 +43,7 @@ values_unique text t u h k = by_special (special_values text) h k
 
 -- refusals of the same parts are at the same part
 same_count : (parts : List (List ℕ)) (x y : Refusal) (a : IsRefusal parts x) (b : IsRefusal parts y) → a.count ≡ b.count
-same_count parts x y a b =
-    let first : a.count < b.count → ⊥ = λ before. a.unplaced (b.placed a.count before) in
-    let second : b.count < a.count → ⊥ = λ before. b.unplaced (a.placed b.count before) in
-    omega arith
+same_count parts x y a b = search rules
 
 abbrev expected_after_all : List Field → Option Field
 expected_after_all [] = None

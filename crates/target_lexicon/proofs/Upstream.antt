@@ -1,13 +1,11 @@
 -- If an unknown environment and an unknown format are shown, the string is longer than upstream's.
 use Rattle.target_lexicon.proofs.Common
-use Common.{◌∷◌, ◌≡◌, ◌≢◌, Bool, List, None, Option, Some, [], ap, arith, false, length, refl, true, true≢false, ℕ}
-use Common.{and_parts, not-true, join_with_byte, dash, operating_system_name, vendor_name, binary_format_name}
-use Common.{environment_name, default_binary_format, cons_if, shown_names, shows_binary_format, shows_environment}
-use Common.{shows_operating_system, shows_unknowns, shows_vendor, string_of, upstream_string_of, special_string}
-use Common.{Architecture, BinaryFormat, OperatingSystem, Values, VendorValue, is_same_format, values}
-use Rattle.target_lexicon.specs.Printing.{HasUnimpliedUnknowns, OnlyUnknownsDifferFromUpstream}
+use Common.{arith, binary_format_name, cons_if, dash, environment_name, false, is_same_format, join_with_byte, length}
+use Common.{operating_system_name, refl, rules, shown_names, shows_binary_format, shows_operating_system}
+use Common.{shows_unknowns, shows_vendor, special_string, string_of, true, upstream_string_of, values, vendor_name, ℕ}
+use Common.{◌∷◌, ◌≡◌, ◌≢◌, Architecture, BinaryFormat, Bool, List, OperatingSystem, Option, Values, VendorValue, [], ap}
 use Rattle.target_lexicon.proofs.Lengths.{weight-cons_if, weight-shown, weight-split}
-use Rattle.target_lexicon.proofs.{RoundTrips.are_unknown}
+use Rattle.target_lexicon.specs.Printing.{HasUnimpliedUnknowns, OnlyUnknownsDifferFromUpstream}
 use Rattle.target_lexicon.specs.Values.environment
 use Rattle.target_lexicon.specs.Values.binary_format
 
@@ -15,7 +13,7 @@ use Rattle.target_lexicon.specs.Values.binary_format
 other_names : (a : Architecture) (v : VendorValue) (s : OperatingSystem) → let t =
     values a v s environment.Unknown binary_format.Unknown in
     join_with_byte dash (shown_names true t) ≢ join_with_byte dash (shown_names false t)
-unfolding shown_names shows_environment
+unfolding shown_names
 other_names a v s same =
     let t = values a v s environment.Unknown binary_format.Unknown in
     let format = cons_if (shows_binary_format t) (binary_format_name binary_format.Unknown) [] in
@@ -33,8 +31,7 @@ other_names a v s same =
     )
 
 unknowns_shown : (i : BinaryFormat) → i ≢ binary_format.Unknown → is_same_format binary_format.Unknown i ≡ false
-unknowns_shown binary_format.Unknown other = absurd (other refl)
-unknowns_shown _ other = refl
+unknowns_shown i other = search rules
 
 other_text : (t : Values) → HasUnimpliedUnknowns t → string_of t ≢ upstream_string_of t
 unfolding string_of upstream_string_of
@@ -46,18 +43,7 @@ other_text t is same =
 shows_unknowns_by : (t : Values) (special : Option (List ℕ)) (b : Bool) → special_string t ≡ special
     → shows_unknowns t ≡ b → string_of t ≢ upstream_string_of t → HasUnimpliedUnknowns t
 unfolding string_of upstream_string_of
-shows_unknowns_by t (Some text) b special shown other = absurd (other (rw special refl))
-shows_unknowns_by t None false special shown other = absurd (other (rw shown refl))
-shows_unknowns_by t None true special shown other =
-    let are = are_unknown t.architecture t.vendor t.operating_system t.environment t.binary_format shown in
-    let differs : is_same_format t.binary_format (default_binary_format t) ≡ false =
-    not-true _ (and_parts _ _ shown).1 in
-    record {
-      environment = are.0;
-      binary_format = are.1;
-      implied = λ is. true≢false (rw (are.1, is) at differs);
-      special = special;
-    }
+shows_unknowns_by t special b special2 shown other = search rules
 
 pub only_unknowns_differ : OnlyUnknownsDifferFromUpstream
 only_unknowns_differ t = (shows_unknowns_by t _ _ refl refl, other_text t)

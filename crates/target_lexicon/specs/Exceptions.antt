@@ -37,7 +37,7 @@ exception_of_vendor v = if is_plain v then None else Some VendorIsNotPlain
 -- the first exception that applies to the triple, if any: the first line that fits decides. Two apply
 -- only to a triple whose system is omitted: with the environment `None` and a vendor that isn't plain it is in `ShowsOnlyNone`,
 -- which comes before `VendorIsNotPlain`
-unfoldable pub exception : Values → Option RoundTripException
+abbrev pub exception : Values → Option RoundTripException
 exception t =
     if is_some (special_string t) then exception_of_special t
     -- on another machine, the environment is a `Newlib` that isn't shown

@@ -15,7 +15,7 @@ field_number Environment = 3
 field_number BinaryFormat = 4
 
 -- whether a string parses as a value of the field
-unfoldable pub parses_as : Field → List ℕ → Bool
+abbrev pub parses_as : Field → List ℕ → Bool
 parses_as Architecture text = is_some (architecture_of text)
 parses_as Vendor text = is_some (vendor_of text)
 parses_as OperatingSystem text = is_some (operating_system_of text)

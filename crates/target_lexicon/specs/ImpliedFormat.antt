@@ -42,7 +42,7 @@ non_darwin_format a operating_system.Unknown e = wasm_or_elf a
 non_darwin_format a _ e = binary_format.Elf
 
 -- the format that architecture, operating system and environment imply
-unfoldable pub implied_format : Architecture → OperatingSystem → Environment → BinaryFormat
+abbrev pub implied_format : Architecture → OperatingSystem → Environment → BinaryFormat
 implied_format a s e = if is_like_darwin s then binary_format.Macho else non_darwin_format a s e
 
 -- the format that the other fields of a triple imply

@@ -64,17 +64,17 @@ is_hermit_or_linux_kernel environment.LinuxKernel = true
 is_hermit_or_linux_kernel _ = false
 
 -- the vendor is shown unless it is unknown and the triple omits it; with one of these kernels it is always shown
-unfoldable pub shows_vendor : Values → Bool
+abbrev pub shows_vendor : Values → Bool
 shows_vendor t =
     not (is_unknown_vendor t.vendor) || is_hermit_or_linux_kernel t.environment
     || not (omits_unknown_vendor t.architecture t.operating_system t.environment)
 
 -- on some architectures an unknown system is omitted
-unfoldable pub shows_operating_system : Values → Bool
+abbrev pub shows_operating_system : Values → Bool
 shows_operating_system t = not (omits_unknown_system t.architecture t.operating_system)
 
 -- an unknown environment is omitted, and so is a `Newlib` that vendor and system imply
-unfoldable pub shows_environment : Values → Bool
+abbrev pub shows_environment : Values → Bool
 shows_environment t = not (is_unknown_environment t.environment)
     && not (implies_newlib t.vendor t.operating_system && is_newlib t.environment)
 
@@ -109,7 +109,7 @@ shows_implied_format t =
     && not (environment_implies_format t.environment) && not (is_same_format t.binary_format binary_format.Unknown)
 
 -- the implied format is omitted, except in such triples
-unfoldable pub shows_binary_format : Values → Bool
+abbrev pub shows_binary_format : Values → Bool
 shows_binary_format t = not (is_same_format t.binary_format (default_binary_format t)) || shows_implied_format t
 
 -- the parts with one more in front, if that is shown

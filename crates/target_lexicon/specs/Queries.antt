@@ -65,7 +65,7 @@ other_convention a operating_system.Unknown = wasm_convention a
 other_convention a _ = None
 
 -- the calling convention of an architecture on a system
-unfoldable pub convention_on : Architecture → OperatingSystem → Option CallingConvention
+abbrev pub convention_on : Architecture → OperatingSystem → Option CallingConvention
 convention_on a s = if is_like_darwin s then darwin_convention a else other_convention a s
 
 -- the model of 64-bit pointers by the calling convention
@@ -120,11 +120,11 @@ model_of_width _ a s = None
 abbrev pub endianness : Values → Option Endianness
 endianness t = architecture_endianness t.architecture
 
-unfoldable pub pointer_width : Values → Option PointerWidth
+abbrev pub pointer_width : Values → Option PointerWidth
 pointer_width t = if is_ilp32 t.environment then Some U32 else architecture_width t.architecture
 
 abbrev pub calling_convention : Values → Option CallingConvention
 calling_convention t = convention_on t.architecture t.operating_system
 
-unfoldable pub data_model : Values → Option CDataModel
+abbrev pub data_model : Values → Option CDataModel
 data_model t = model_of_width (pointer_width t) t.architecture t.operating_system

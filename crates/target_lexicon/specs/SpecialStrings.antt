@@ -59,7 +59,7 @@ special_string t = by_fields t.architecture t.vendor t.operating_system
     by_fields _ _ _ = None
 
 -- whether vendor and system are those of a special string: they imply the environment `Newlib`
-unfoldable pub implies_newlib : VendorValue → OperatingSystem → Bool
+abbrev pub implies_newlib : VendorValue → OperatingSystem → Bool
 -- written by tools/names/write: implies_newlib
 implies_newlib (Known known_vendor.Nintendo) operating_system.Horizon = true
 implies_newlib (Known known_vendor.Espressif) operating_system.Espidf = true

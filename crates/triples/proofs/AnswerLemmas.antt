@@ -1,18 +1,14 @@
 -- The answers to the lines of an input, one after another.
-use Rattle.triples.proofs.Common.{◌++◌, ◌||◌, ◌∙◌, ◌∷◌, ◌≡◌, Answer, AreAnswers, Bool, Err, IsAnswer, IsLineOutput}
-use Rattle.triples.proofs.Common.{IsRefusedAs, List, MatchOption, None, Ok, Option, ParsesAs, Refusal, Refused, Result}
-use Rattle.triples.proofs.Common.{Shown, Some, Values, [], answer_bytes, ap, append-nil, append_assoc, bytes_eq}
-use Rattle.triples.proofs.Common.{bytes_eq-Decides, canonical_string, false, if◌then◌else◌, is_kept_after, kept_answers}
-use Rattle.triples.proofs.Common.{line_feed, list_any, matrix_of, not, or-false, refl, shows, sym, true, written_lines}
-use Rattle.triples.proofs.Common.{ℕ}
-use Rattle.std.proofs.{Common.String, Common.OnOk, lemmas.List.Folds.list_any-append}
-use Rattle.std.proofs.{lemmas.Bool.Decides.same_from_decides, lemmas.Map.Text.hash_set_updates_text}
-use Rattle.std.specs.HashSet.{IsEmpty, UpdatesBy, contains_text}
-use Rattle.std.specs.{String.string_bytes, String.string_eq, declared.alloc.Global.Global}
-use Rattle.target_lexicon.specs.Parsing.{IsErrorOf, MayAllocate}
-use Rattle.target_lexicon.specs.{Refusal.refusal_of, declared.parse_error.ParseError.ParseError}
+use Rattle.std.proofs.{Common.OnOk, lemmas.List.Folds.list_any-append, lemmas.Map.Text.hash_set_updates_text}
+use Rattle.std.specs.{HashSet.IsEmpty, HashSet.UpdatesBy, HashSet.contains_text, String.string_bytes, String.string_eq}
+use Rattle.target_lexicon.specs.{Parsing.IsErrorOf, declared.parse_error.ParseError.ParseError}
+use Rattle.triples.proofs.Common.{IsLineOutput, IsRefusedAs, List, Ok, ParsesAs, Refusal, Result, Shown, Values, []}
+use Rattle.triples.proofs.Common.{answer_bytes, ap, append-nil, append_assoc, bytes_eq, canonical_string, false}
+use Rattle.triples.proofs.Common.{if◌then◌else◌, ◌++◌, ◌||◌, ◌∙◌, ◌∷◌, ◌≡◌, Answer, AreAnswers, Bool, Err, IsAnswer}
+use Rattle.triples.proofs.Common.{is_kept_after, kept_answers, line_feed, list_any, matrix_of, or-false, refl, rules}
+use Rattle.triples.proofs.Common.{shows, sym, true, written_lines, ℕ}
 use Rattle.triples.specs.Output.{IsMatrix}
-use Rattle.triples.specs.Private.{Seen, HasOneMore, is_repeated, refused_answer, AddsAnswer, AddsEntry, AddsRefusal}
+use Rattle.triples.specs.Private.{AddsAnswer, AddsEntry, AddsRefusal, HasOneMore, Seen, is_repeated, refused_answer}
 
 -- the lines so far precede the rest, and these are their answers
 pub record AreAnswersSoFar (shown : Values → List ℕ) (lines rest : List (List ℕ)) (before : List Answer) : Type 0 where
@@ -22,8 +18,7 @@ so-far-next : {shown : Values → List ℕ} {lines rest others : List (List ℕ)
     (answer : Answer)
     → rest ≡ line ∷ others → IsAnswer shown line answer → AreAnswersSoFar shown lines rest before
     → AreAnswersSoFar shown lines others (before ++ answer ∷ [])
-so-far-next before answer cut is far =
-    record { whole = λ more are. rw append_assoc (far.whole (answer ∷ more) (rw cut (is, are))) }
+so-far-next before answer cut is far = search (rules, append_assoc)
 
 so-far-end : {shown : Values → List ℕ} {lines rest : List (List ℕ)} {before : List Answer} → rest ≡ []
     → AreAnswersSoFar shown lines rest before → AreAnswers shown lines before
@@ -49,8 +44,7 @@ pub record IsMatrixSoFar (lines rest : List (List ℕ)) (output : List ℕ) (see
 pub matrix-none : {lines : List (List ℕ)} {output : List ℕ} {seen : Seen} → output ≡ []
     → ((text : List ℕ) → contains_text seen text ≡ false)
     → IsMatrixSoFar lines lines output seen
-matrix-none empty none =
-    record { before = []; answers = record { whole = λ more are. are }; written_lines = empty; agree = none }
+matrix-none empty none = search rules
 
 -- an answer that is written if it stays after others
 abbrev pub if_stays : Bool → Answer → List Answer
@@ -78,17 +72,11 @@ written_lines-append (x ∷ xs) ys =
 repeated-stays : (before : List Answer) (seen : Seen) (answer : Answer)
     → ((text : List ℕ) → contains_text seen text ≡ list_any (shows text) before)
     → (if is_repeated seen answer then [] else answer ∷ []) ≡ if_stays (is_kept_after before answer) answer
-repeated-stays before seen (Shown text) agree =
-    rw (agree text)
-    (elim (list_any (shows text) before) as (λ b. (if b then [] else Shown text ∷ []) ≡ if_stays (not b) (Shown text))
-    [ true ↦ refl | false ↦ refl ])
-repeated-stays before seen (Refused message) agree = refl
+repeated-stays before seen answer agree = search rules
 
 pub push-any : (text : List ℕ) (xs : List Answer) (line : Answer)
     → list_any (shows text) (xs ++ line ∷ []) ≡ (list_any (shows text) xs || shows text line)
-push-any text xs line =
-    list_any-append (shows text) xs (line ∷ [])
-    ∙ ap (λ (b : Bool). list_any (shows text) xs || b) (or-false (shows text line))
+push-any text xs line = search (rules, list_any-append, or-false)
 
 pub so-far-more : {shown : Values → List ℕ} {lines rest others : List (List ℕ)} {line old new : List ℕ}
     → rest ≡ line ∷ others → AddsAnswer shown line old new → IsSoFar shown lines rest old
@@ -137,12 +125,7 @@ matrix-whole none far = (far.before, so-far-end none far.answers, far.written_li
 -- an error whose line was written is the refusal of the line
 error-refuses : (line old new : List ℕ) (error : ParseError) → IsErrorOf line error → AddsRefusal error old new
     → (refusal : Refusal) × IsRefusedAs line refusal × (new ≡ old ++ written_lines (refused_answer refusal ∷ []))
-error-refuses line old new error is adds =
-    elim (refusal_of error) as
-    (λ (r : Option Refusal). MatchOption r (MayAllocate line) (λ refusal. IsRefusedAs line refusal)
-    → MatchOption r ⊥ (λ refusal. new ≡ old ++ written_lines (refused_answer refusal ∷ []))
-    → (refusal : Refusal) × IsRefusedAs line refusal × (new ≡ old ++ written_lines (refused_answer refusal ∷ [])))
-    [ Some refusal ↦ λ refused grown. (refusal, refused, grown) | None ↦ λ _ bad. absurd bad ] is adds
+error-refuses line old new error is adds = search rules
 
 pub refusal-adds : {T E : Type 0} (done : Result T E) (shown : Values → List ℕ) (line old new : List ℕ)
     (error : ParseError) → IsErrorOf line error
@@ -166,21 +149,14 @@ shown-adds (Err _) shown line old unended new t reads grown ended = tt
 module _ (line old new : List ℕ) (seen_old seen_new : Seen) where
   unless-seen : (b : Bool) (text : List ℕ)
       → (if b then [] else text ++ line_feed ∷ []) ≡ written_lines (if b then [] else Shown text ∷ [])
-  unless-seen true text = refl
-  unless-seen false text = refl
+  unless-seen b text = search rules
 
   pub read-enters : {T E : Type 0} (done : Result T E) (t : Values) (text : List ℕ) → ParsesAs line t
       → text ≡ canonical_string t
       → OnOk done (new ≡ old ++ (if contains_text seen_old text then [] else text ++ line_feed ∷ []))
       → OnOk done (HasOneMore seen_old seen_new text)
       → OnOk done (AddsEntry line old new seen_old seen_new)
-  read-enters (Ok _) t text reads is grown seen = record {
-    answer = Shown text;
-    is = (t, reads, is);
-    grown = grown ∙ ap (λ (t : List ℕ). old ++ t) (unless-seen (contains_text seen_old text) text);
-    seen = seen;
-  }
-  read-enters (Err _) t text reads is grown seen = tt
+  read-enters done t text reads is grown seen = search (rules, unless-seen)
 
   pub refusal-enters : {T E : Type 0} (done : Result T E) (error : ParseError) → IsErrorOf line error
       → OnOk done (AddsRefusal error old new)
@@ -197,16 +173,10 @@ module _ (line old new : List ℕ) (seen_old seen_new : Seen) where
   refusal-enters (Err _) error is adds = tt
 
 bytes_eq-comm : (a b : List ℕ) → bytes_eq a b ≡ bytes_eq b a
-bytes_eq-comm a b =
-    let back = bytes_eq-Decides b a in
-    same_from_decides (bytes_eq a b) (bytes_eq b a) (bytes_eq-Decides a b)
-    (λ is. sym (back.0 is), λ is. back.1 (sym is))
+bytes_eq-comm a b = search rules
 
 or-if : (a b : Bool) → (if a then true else b) ≡ (b || a)
-or-if true true = refl
-or-if true false = refl
-or-if false true = refl
-or-if false false = refl
+or-if a b = search rules
 
 -- a set into which a string is inserted has it and its earlier ones
 pub inserted : (text : List ℕ) (old new : Seen)
@@ -218,5 +188,4 @@ inserted text old new updates = λ other.
 
 -- an empty set has no string
 pub none-seen : (seen : Seen) → IsEmpty seen → (text : List ℕ) → contains_text seen text ≡ false
-none-seen seen empty text =
-    ap (λ (keys : List (String Global)). list_any (λ other. bytes_eq text (string_bytes other)) keys) empty
+none-seen seen empty text = search rules

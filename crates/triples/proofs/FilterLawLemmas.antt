@@ -1,18 +1,15 @@
 -- The laws of what a filter writes and how it ends.
-use Rattle.triples.proofs.Common.{◌++◌, ◌-◌, ◌<◌, ◌^◌, ◌↔◌, ◌∙◌, ◌∷◌, ◌≡◌, AllByRecursion, AllZip, Answer}
-use Rattle.triples.proofs.Common.{AreFilterAnswers, Bool, Err, EveryStringHasOneOutcome, FilterError, IsAnswer}
+use Rattle.triples.proofs.Common.{AreFilterAnswers, Bool, EveryStringHasOneOutcome, FilterError, IsAnswer}
 use Rattle.triples.proofs.Common.{IsFilterAnswer, IsLineOutput, IsOutput, IsUtf8, IsUtf8-from_is_utf8, LineMode, List}
-use Rattle.triples.proofs.Common.{Ok, Refused, Result, Shown, Takes, Use, [], ap, arith, cases_lt, codes}
-use Rattle.triples.proofs.Common.{complete_lines, false, inl, inr, is_utf8, is_utf8-from_IsUtf8, length, lines_of}
-use Rattle.triples.proofs.Common.{not_utf8, refl, refusal_line, shown_by, subst, sym, too_long, true, written_lines, ℕ}
+use Rattle.triples.proofs.Common.{Ok, Refused, Result, Shown, Takes, Use, [], ap, arith, cases_lt, codes, false, inl}
+use Rattle.triples.proofs.Common.{inr, is_utf8, is_utf8-from_IsUtf8, length, lines_of, not_utf8, refl, refusal_line}
+use Rattle.triples.proofs.Common.{rules, shown_by, sym, too_long, true, written_lines, ℕ}
+use Rattle.triples.proofs.Common.{◌++◌, ◌-◌, ◌<◌, ◌^◌, ◌↔◌, ◌∙◌, ◌∷◌, ◌≡◌, AllByRecursion, AllZip, Answer}
+use Rattle.triples.proofs.UniqueOutputs.{answer-unique, zip-some, zip-unique}
+use Rattle.triples.proofs.{LineLemmas.lines-utf8, UseLemmas.input-is, UseLemmas.input-within, UseLemmas.not-both}
 use Rattle.triples.specs.Filter.{FilterEnds}
 use Rattle.triples.specs.FilterLaws.{ErrorsOfFiltersAreExact, EveryInputIsFiltered, FilterGives, FiltersAgreeWithRuns}
 use Rattle.triples.specs.FilterLaws.{FiltersEndOneWay, HasExactFilterErrors, run_mode}
-use Rattle.triples.specs.declared.line_mode.LineMode.TheVariants.{Print, Show, Settle}
-use Rattle.triples.proofs.UseLemmas.{input-is, input-within, no-failure, not-both}
-use Rattle.triples.proofs.LineLemmas.{lines-utf8}
-use Rattle.triples.proofs.UniqueOutputs.{answer-unique, zip-some, zip-unique}
-use Rattle.triples.specs.declared.filter_error.FilterError.TheVariants as filter_error
 
 -- the one answer to a line
 record OneAnswer (mode : LineMode) (size : ℕ) (line : List ℕ) : Type 0 where
@@ -24,17 +21,12 @@ record OneAnswer (mode : LineMode) (size : ℕ) (line : List ℕ) : Type 0 where
 pub fitting-answer : (mode : LineMode) (size : ℕ) (line : List ℕ) (answer : Answer) → length line < size
     → (¬ (IsUtf8 line) → answer ≡ not_utf8) → (IsUtf8 line → IsAnswer (shown_by mode) line answer)
     → IsFilterAnswer mode size line answer
-fitting-answer mode size line answer less other text =
-    record { long = λ most. absurd (omega (arith, less, most)); other = λ _. other; text = λ _. text }
+fitting-answer mode size line answer less other text = search rules
 
 module _ (one : EveryStringHasOneOutcome) (mode : LineMode) (size : ℕ) where
   shows : (line : List ℕ) (answer : Answer) → length line < size → IsUtf8 line → IsAnswer (shown_by mode) line answer
       → OneAnswer mode size line
-  shows line answer less utf8 is = record {
-    answer = answer;
-    is = fitting-answer mode size line answer less (λ not. absurd (not utf8)) (λ _. is);
-    only = λ other it. answer-unique one (shown_by mode) line other answer (it.text less utf8) is;
-  }
+  shows line answer less utf8 is = search (rules, fitting-answer, answer-unique)
 
   short-answer : (line : List ℕ) (b : Bool) → is_utf8 line ≡ b → length line < size → OneAnswer mode size line
   short-answer line true is less =
@@ -93,9 +85,7 @@ zip-map to (a ∷ us) (b ∷ bs) p q are = (to a b p.0 q.0 are.0, zip-map to us 
 -- the run of the same name
 as-run : (mode : LineMode) (input output : List ℕ)
     → IsLineOutput (shown_by mode) (lines_of input) output ↔ IsOutput (run_mode mode) input output
-as-run Print input output = (λ is. is, λ is. is)
-as-run Show input output = (λ is. is, λ is. is)
-as-run Settle input output = (λ is. is, λ is. is)
+as-run mode input output = search rules
 
 pub filters_agree_with_runs : FiltersAgreeWithRuns
 filters_agree_with_runs mode size input output utf8 short =
@@ -119,37 +109,16 @@ filters_agree_with_runs mode size input output utf8 short =
 
 failures-exact : (reader writer : Use) (input answers output : List ℕ) (result : Result (Unit {0}) FilterError)
     → FilterEnds reader writer input answers output result → HasExactFilterErrors reader writer result
-failures-exact reader writer input answers output (Ok _) ends =
-    record { read = no-failure reader (λ bad. cc) ends.0.2; write = no-failure writer (λ bad. cc) ends.1.1 }
-failures-exact reader writer input answers output (Err filter_error.Read) ends =
-    record { read = (λ _. ends.0, λ _. refl); write = no-failure writer (λ bad. cc) ends.1 }
-failures-exact reader writer input answers output (Err filter_error.Write) ends =
-    record { read = no-failure reader (λ bad. cc) ends.0; write = (λ _. ends.1, λ _. refl) }
-failures-exact reader writer input answers output (Err filter_error.Endless) ends =
-    record { read = no-failure reader (λ bad. cc) ends.0; write = no-failure writer (λ bad. cc) ends.3 }
+failures-exact reader writer input answers output result ends = search rules
 
 pub errors_of_filters_are_exact : ErrorsOfFiltersAreExact
-errors_of_filters_are_exact mode size reader writer result ends =
-    failures-exact reader writer ends.input ends.answers ends.output result ends.by_result
+errors_of_filters_are_exact mode size reader writer result ends = search rules
 
 module _ (mode : LineMode) (size : ℕ) (input : List ℕ) (writer : Use) (fewer : length input < 2 ^ 64 - 1) where
   end-one-way : (result : Result (Unit {0}) FilterError) (run : FilterGives mode size input writer result)
       → FilterEnds run.reader writer run.ends.input run.ends.answers run.ends.output result
       → (result ≡ Ok tt) × (output : List ℕ) × AreFilterAnswers mode size (lines_of input) output × Takes writer output
-  end-one-way (Ok _) run ends =
-      let same = input-is run.reader run.ends.input input run.input_is run.ends.gives ends.0 in
-      let answered = subst (λ (b : Bool). AreFilterAnswers mode size (complete_lines b run.ends.input) run.ends.answers)
-      ends.0.0 run.ends.answered in (
-        refl,
-        run.ends.answers,
-        subst (λ (t : List ℕ). AreFilterAnswers mode size (lines_of t) run.ends.answers) same answered,
-        subst (λ (t : List ℕ). Takes writer t) ends.2 run.ends.takes,
-      )
-  end-one-way (Err filter_error.Read) run ends = absurd (not-both run.reader run.read_unfailed ends.0)
-  end-one-way (Err filter_error.Write) run ends = absurd (not-both writer run.write_unfailed ends.1)
-  end-one-way (Err filter_error.Endless) run ends =
-      let within = input-within run.reader run.ends.input input run.input_is run.ends.gives in
-      absurd (omega (arith, ends.2, fewer, within))
+  end-one-way result run ends = search (rules, input-is, not-both, input-within)
 
 pub filters_end_one_way : FiltersEndOneWay
 filters_end_one_way mode size input writer result fewer run =

@@ -1,32 +1,26 @@
 -- Answers in a buffer, and the lines that were answered so far.
-use Rattle.triples.proofs.Common.{◌++◌, ◌+◌, ◌-◌, ◌<◌, ◌==◌, ◌∙◌, ◌∷◌, ◌≡◌, ◌≤◌, ◌⊎◌, AllByRecursion, AllZip, Answer}
+use Rattle.std.proofs.{Common.lit≤, Common.option_map, lemmas.List.drop-drop}
+use Rattle.target_lexicon.proofs.WordLengths.{short-convention, short-endianness, short-model, short-width}
+use Rattle.target_lexicon.specs.FixedPoints.{CanonicalStringsGrowAtMost, PrintedStringsGrowAtMost}
+use Rattle.target_lexicon.specs.Queries.{calling_convention, endianness, endianness_name, pointer_width, width_name}
+use Rattle.target_lexicon.specs.{CallingConvention.convention_name, DataModel.model_name, Queries.data_model}
 use Rattle.triples.proofs.Common.{AnswersLines, AnswersRest, AreFilterAnswers, Bool, EveryStringHasOneOutcome}
 use Rattle.triples.proofs.Common.{HasNoFeed, IsFilterAnswer, IsFilteredTo, IsLate, IsRefusedAs, IsUtf8, LineMode, List}
-use Rattle.triples.proofs.Common.{None, Option, ParsesAs, Refusal, Refused, Shown, Some, Values, [], ap, append-nil}
-use Rattle.triples.proofs.Common.{append_assoc, arith, codes, drop, ended_lines_of, facts_of, false, inl, inr, length}
-use Rattle.triples.proofs.Common.{length-append, length-drop, length-slice_split, length-take, line_feed, lines_of}
-use Rattle.triples.proofs.Common.{parts_without_empty_last, refl, refusal_line, shown_by, slice_split, slice_split_at}
-use Rattle.triples.proofs.Common.{slice_split_none, string_of, subst, sym, take, take_all, true, written_lines, ℕ}
-use Rattle.std.proofs.{Common.lit≤, Common.option_map, lemmas.List.drop-drop, lemmas.List.Elements.All-append}
-use Rattle.target_lexicon.specs.Queries.{endianness_name, width_name, endianness, pointer_width, calling_convention}
-use Rattle.target_lexicon.specs.Queries.{data_model}
-use Rattle.target_lexicon.specs.FixedPoints.{PrintedStringsGrowAtMost, CanonicalStringsGrowAtMost}
-use Rattle.target_lexicon.specs.{CallingConvention.convention_name, DataModel.model_name}
-use Rattle.target_lexicon.proofs.WordLengths.{short-endianness, short-width, short-convention, short-model}
-use Rattle.triples.specs.FilterSteps.{IsLineAnswer, IsLineEnd, IsShortAnswer, Pushes, PushesAnswer, with_feeds}
-use Rattle.triples.specs.declared.line_mode.LineMode.TheVariants.{Print, Show, Settle}
-use Rattle.triples.specs.{Facts.spaced_word, Lines.parts_without_last}
+use Rattle.triples.proofs.Common.{Option, ParsesAs, Refusal, Refused, Shown, Some, Values, [], ap, append-nil}
+use Rattle.triples.proofs.Common.{append_assoc, arith, codes, common_steps, drop, ended_lines_of, facts_of, false, inl}
+use Rattle.triples.proofs.Common.{inr, length, length-append, length-drop, length-slice_split, length-take, line_feed}
+use Rattle.triples.proofs.Common.{lines_of, parts_without_empty_last, refl, refusal_line, rules, shown_by, slice_split}
+use Rattle.triples.proofs.Common.{slice_split_at, slice_split_none, subst, sym, take, take_all, written_lines, ℕ}
+use Rattle.triples.proofs.Common.{◌++◌, ◌+◌, ◌-◌, ◌<◌, ◌==◌, ◌∙◌, ◌∷◌, ◌≡◌, ◌≤◌, ◌⊎◌, AllByRecursion, AllZip, Answer}
 use Rattle.triples.proofs.FilterLawLemmas.{every_input_is_filtered, fitting-answer}
 use Rattle.triples.proofs.{AnswerLemmas.written_lines-append, LineLemmas.stays-first}
+use Rattle.triples.specs.FilterSteps.{IsLineAnswer, IsLineEnd, IsShortAnswer, Pushes, PushesAnswer, with_feeds}
+use Rattle.triples.specs.{Facts.spaced_word, Lines.parts_without_last}
 
 -- a text after another in a buffer
 pub pushes-then : (a b old mid new : List ℕ) (at m end : ℕ) → Pushes a old at mid m → Pushes b mid m new end
     → Pushes (a ++ b) old at new end
-pushes-then a b old mid new at m end first next = record {
-  grown = next.grown ∙ ap (λ (t : List ℕ). t ++ b) first.grown ∙ append_assoc (take at old) a b;
-  end_is = omega (arith, first.end_is, next.end_is, length-append a b);
-  same_length = next.same_length ∙ first.same_length;
-}
+pushes-then a b old mid new at m end first next = search (rules, append_assoc, length-append)
 
 -- what is shown of a triple, or the words of a refusal, and then a line feed
 pub shown-pushes : (mode : LineMode) (line : List ℕ) (t : Values) (text old mid new : List ℕ) (at m end : ℕ)
@@ -55,8 +49,7 @@ refused-pushes mode line refusal old one mid new at a m end utf8 refused words f
 -- four words are short
 short-word : {A : Type 0} (name : A → List ℕ) (most : ℕ) → 1 ≤ most → ((a : A) → length (name a) ≤ most)
     → (o : Option A) → length (spaced_word (option_map name o)) ≤ most + 1
-short-word name most some short None = omega (arith, some)
-short-word name most some short (Some a) = omega (arith, short a)
+short-word name most some short o = search rules
 
 pub facts-short : (t : Values) → length (facts_of t) ≤ 32
 facts-short t =
@@ -78,10 +71,7 @@ facts-short t =
 -- what a mode shows is not much longer than the line
 pub shown-short : PrintedStringsGrowAtMost → CanonicalStringsGrowAtMost → (mode : LineMode) (line : List ℕ) (t : Values)
     → ParsesAs line t → length (shown_by mode t) ≤ length line + 54
-shown-short printed canonical Print line t reads = omega (arith, printed line t reads)
-shown-short printed canonical Show line t reads =
-    omega (arith, printed line t reads, facts-short t, length-append (string_of t) (facts_of t))
-shown-short printed canonical Settle line t reads = omega (arith, canonical line t reads)
+shown-short printed canonical mode line t reads = search (rules, facts-short, length-append)
 
 -- no byte is no line feed
 pub no-bytes : HasNoFeed []
@@ -97,8 +87,7 @@ zip-append R (a ∷ xs) us (b ∷ ys) vs all is = (all.0, zip-append R xs us ys 
 
 each-append : {A : Type 0} (P : A → Type 0) (xs ys : List A) → AllByRecursion P xs → AllByRecursion P ys
     → AllByRecursion P (xs ++ ys)
-each-append P [] ys all is = is
-each-append P (x ∷ xs) ys all is = (all.0, each-append P xs ys all.1 is)
+each-append P xs ys all is = grind (arith, common_steps)
 
 feeds-append : (xs ys : List (List ℕ)) → with_feeds (xs ++ ys) ≡ with_feeds xs ++ with_feeds ys
 feeds-append [] ys = refl
@@ -114,20 +103,8 @@ module _ (mode : LineMode) (size : ℕ) where
   pub filtered-then : (bytes mid rest first next : List ℕ) → IsFilteredTo mode size bytes mid first
       → IsFilteredTo mode size mid rest next
       → IsFilteredTo mode size bytes rest (first ++ next)
-  filtered-then bytes mid rest first next a b = record {
-    lines = a.lines ++ b.lines;
-    whole =
-        a.whole ∙ ap (λ (t : List ℕ). with_feeds a.lines ++ t) b.whole
-        ∙ sym (append_assoc (with_feeds a.lines) (with_feeds b.lines) rest)
-        ∙ ap (λ (t : List ℕ). t ++ rest) (sym (feeds-append a.lines b.lines));
-    each = each-append HasNoFeed a.lines b.lines a.each b.each;
-    answered = (
-      a.answered.0 ++ b.answered.0,
-      zip-append (IsFilterAnswer mode size) a.lines b.lines a.answered.0 b.answered.0 a.answered.1 b.answered.1,
-      ap (λ (t : List ℕ). t ++ next) a.answered.2 ∙ ap (λ (t : List ℕ). written_lines a.answered.0 ++ t) b.answered.2
-          ∙ sym (written_lines-append a.answered.0 b.answered.0),
-    );
-  }
+  filtered-then bytes mid rest first next a b =
+      search (rules, append_assoc, feeds-append, each-append, zip-append, written_lines-append)
 
   -- one line
   pub filtered-line : (line rest : List ℕ) (answer : Answer) → HasNoFeed line → IsFilterAnswer mode size line answer
@@ -142,12 +119,7 @@ module _ (mode : LineMode) (size : ℕ) where
   -- more bytes came
   pub filtered-more : (bytes rest output more : List ℕ) → IsFilteredTo mode size bytes rest output
       → IsFilteredTo mode size (bytes ++ more) (rest ++ more) output
-  filtered-more bytes rest output more far = record {
-    lines = far.lines;
-    whole = ap (λ (t : List ℕ). t ++ more) far.whole ∙ append_assoc (with_feeds far.lines) rest more;
-    each = far.each;
-    answered = far.answered;
-  }
+  filtered-more bytes rest output more far = search (rules, append_assoc)
 
 -- the lines of bytes, one taken off after the other, where `f` takes the lines from the parts between line feeds
 abbrev split : List ℕ → List (List ℕ)
@@ -170,13 +142,11 @@ lines-ended : (lines : List (List ℕ)) (rest : List ℕ) → AllByRecursion Has
 lines-ended = parts-ended parts_without_empty_last (λ part parts some. stays-first part parts (omega (arith, some)))
 
 lines-last : (rest : List ℕ) → HasNoFeed rest → 0 < length rest → lines_of rest ≡ rest ∷ []
-lines-last [] none some = absurd (omega arith)
-lines-last (b ∷ bs) none some = ap parts_without_empty_last (slice_split_none (λ b. b == line_feed) (b ∷ bs) none)
+lines-last rest none some = search (rules, slice_split_none)
 
 without-last-first : (part : List ℕ) (parts : List (List ℕ)) → 0 < length parts
     → parts_without_last (part ∷ parts) ≡ part ∷ parts_without_last parts
-without-last-first part [] some = absurd (omega arith)
-without-last-first part (next ∷ parts) some = refl
+without-last-first part parts some = search rules
 
 ended-none : (rest : List ℕ) → HasNoFeed rest → ended_lines_of rest ≡ []
 ended-none rest none = ap parts_without_last (slice_split_none (λ b. b == line_feed) rest none)
@@ -240,19 +210,11 @@ module _ (mode : LineMode) (size : ℕ) where
 line-answer : (mode : LineMode) (late : Bool) (size : ℕ) (before line : List ℕ) (answer : Answer)
     → IsLate late size before → length line < size
     → IsLineAnswer mode late line answer → IsFilterAnswer mode size (before ++ line) answer
-line-answer mode true size before line answer fits less is = record {
-  long = λ _. is;
-  other = λ bad _. absurd (omega (arith, bad, fits.0, length-append before line));
-  text = λ bad _. absurd (omega (arith, bad, fits.0, length-append before line));
-}
-line-answer mode false size before line answer fits less is =
-    subst (λ (t : List ℕ). IsFilterAnswer mode size (t ++ line) answer) (sym fits)
-    (fitting-answer mode size line answer less is.other is.text)
+line-answer mode late size before line answer fits less is = search (rules, length-append, fitting-answer)
 
 pub late-no-feed : (late : Bool) (size : ℕ) (before line : List ℕ) → IsLate late size before → HasNoFeed line
     → HasNoFeed (before ++ line)
-late-no-feed true size before line fits none = All-append (λ b. (b == line_feed) ≡ false) before line fits.1 none
-late-no-feed false size before line fits none = subst (λ (t : List ℕ). HasNoFeed (t ++ line)) (sym fits) none
+late-no-feed late size before line fits none = grind (arith, common_steps)
 
 module _ (mode : LineMode) (late : Bool) (bytes : List ℕ) where
   pub answers-none : AnswersLines mode late bytes late bytes []
@@ -279,20 +241,12 @@ module _ (mode : LineMode) (late : Bool) (bytes : List ℕ) where
 -- the last line
 late-some : (late : Bool) (size : ℕ) (before bytes : List ℕ) → length bytes < size → (late ≡ false → 0 < length bytes)
     → IsLate late size before → 0 < length (before ++ bytes)
-late-some true size before bytes less some fits = omega (arith, less, fits.0, length-append before bytes)
-late-some false size before bytes less some fits = omega (arith, some refl, length-append before bytes)
+late-some late size before bytes less some fits = search (rules, length-append)
 
 pub rest-answered : (mode : LineMode) (late : Bool) (bytes : List ℕ) (answer : Answer)
     → (late ≡ false → 0 < length bytes) → IsLineAnswer mode late bytes answer
     → AnswersRest mode late bytes (written_lines (answer ∷ []))
-rest-answered mode late bytes answer some is = record {
-  rest = λ size before less fits. inr (
-    late-some late size before bytes less some fits,
-    answer,
-    line-answer mode late size before bytes answer fits less is,
-    refl,
-  );
-}
+rest-answered mode late bytes answer some is = search (rules, late-some, line-answer)
 
 -- an answer was put after what is used of the buffer, of which a part may have gone to the writer first
 pub used-more : (gone more written old new : List ℕ) (used now end : ℕ) → more ++ take now old ≡ take used old
@@ -336,7 +290,4 @@ line-step mode late late_then bytes start at gone more old new used free end far
 -- what was put is within the buffer
 pub pushed-within : (text old new : List ℕ) (at end : ℕ) → at ≤ length old → Pushes text old at new end
     → end ≤ length new
-pushed-within text old new at end within pushed =
-    let size : length (take end new) ≡ length (take at old) + length text = ap (λ (t : List ℕ). length t) pushed.grown
-    ∙ length-append (take at old) text in
-    omega (arith, within, pushed.end_is, size, length-take end new, length-take at old)
+pushed-within text old new at end within pushed = grind (arith, common_steps)

@@ -1,21 +1,19 @@
 -- A filter between its reads, and its ends.
-use Rattle.triples.proofs.Common.{◌++◌, ◌+◌, ◌-◌, ◌<◌, ◌^◌, ◌∙◌, ◌∷◌, ◌≡◌, ◌≤◌, ◌⊎◌, After, AnswersRest}
-use Rattle.triples.proofs.Common.{AreFilterAnswers, Bool, Call, Consumes, Ended, Err, EveryStringHasOneOutcome, Failed}
-use Rattle.triples.proofs.Common.{FilterError, Gives, HasNoFeed, IsAtEnd, IsFilteredTo, IsKept, IsLate, IsUnfailed}
-use Rattle.triples.proofs.Common.{Keeps, LineMode, List, Moved, Ok, OnlyMoves, RestAnswered, Result, StopsLast}
-use Rattle.triples.proofs.Common.{StopsOnce, Takes, Use, [], ap, append-nil, append_assoc, arith, bytes_of}
-use Rattle.triples.proofs.Common.{complete_lines, drop, ended_lines_of, ends_last, failures_in, false, inl, inr, length}
-use Rattle.triples.proofs.Common.{length-append, length-drop, length-take, ne_eqb, put_mid, refl, rules, stops_in}
-use Rattle.triples.proofs.Common.{subst, sym, take, take-append-add, take-append-drop, take-append_seam, true, ℕ}
 use Rattle.std.proofs.KnownBytes.{Consumes-kept, Consumes-nil}
-use Rattle.std.proofs.lemmas.List.{take-append-le, places}
+use Rattle.std.proofs.lemmas.List.{places, take-append-le}
+use Rattle.triples.proofs.Common
+use Common.{AnswersRest, Consumes, FilterError, RestAnswered, append_assoc, common_steps, ended_lines_of, length-append}
+use Common.{AreFilterAnswers, EveryStringHasOneOutcome, IsFilteredTo, complete_lines, take-append-add, take-append_seam}
+use Common.{Failed, IsAtEnd, IsKept, IsLate, LineMode, Result, bytes_of, ends_last, length, ne_eqb, put_mid, stops_in}
+use Common.{HasNoFeed, IsUnfailed, OnlyMoves, StopsLast, StopsOnce, append-nil, failures_in, length-drop, length-take}
+use Common.{◌++◌, After, Bool, Call, Ended, Gives, Keeps, List, Moved, Takes, arith, drop, false, refl, rules, subst, ℕ}
+use Common.{◌+◌, ◌-◌, ◌<◌, ◌^◌, ◌∙◌, ◌∷◌, ◌≡◌, ◌≤◌, ◌⊎◌, Err, Ok, Use, [], ap, inl, inr, sym, take, true}
+use Rattle.triples.proofs.FilterLemmas.{filtered-end, filtered-more, filtered-none, filtered-part, filtered-so-far}
+use Rattle.triples.proofs.FilterLemmas.{filtered-then, late-no-feed, no-bytes}
+use Rattle.triples.proofs.UseLemmas.{State, from_to, takes-none, takes-part, takes-then}
 use Rattle.triples.specs.Calls.{bytes_in, failure_in, is_end, stop_in, stops_last}
 use Rattle.triples.specs.Filter.{FilterEnds, FilterEndsAs, IsPrompt}
 use Rattle.triples.specs.{FilterSteps.LinesAnswered, Streams.read_call}
-use Rattle.triples.proofs.FilterLemmas.{filtered-none, filtered-then, filtered-more, filtered-end, filtered-part}
-use Rattle.triples.proofs.FilterLemmas.{filtered-so-far, late-no-feed, no-bytes}
-use Rattle.triples.proofs.UseLemmas.{State, from_to, gives-then, takes-none, takes-part, takes-then}
-use borrow.Rule.Slice.PartMut.{post_of}
 use Rattle.triples.specs.declared.filter_error.FilterError.TheVariants as filter_error
 
 -- the reads that gave these bytes, each after the answers to all lines that had ended
@@ -49,16 +47,11 @@ pub record IsBetweenReads (mode : LineMode) (size : ℕ) (late : Bool) (held : L
 
 -- a beginning of bytes is one of these and more
 beginning : (n : ℕ) (bytes more : List ℕ) → take n bytes ≡ take (length (take n bytes)) (bytes ++ more)
-beginning n bytes more =
-    sym (take-append_seam (take n bytes) (drop n bytes ++ more))
-    ∙ ap (λ (t : List ℕ). take (length (take n bytes)) t)
-    (sym (append_assoc (take n bytes) (drop n bytes) more) ∙ ap (λ (t : List ℕ). t ++ more) (take-append-drop n bytes))
+beginning n bytes more = grind (arith, common_steps)
 
 longer : (late : Bool) (size : ℕ) (held before : List ℕ) → (late ≡ true) ⊎ (size ≤ length held)
     → IsLate late size before → size ≤ length (before ++ held)
-longer true size held before long is = omega (arith, is.0, length-append before held)
-longer false size held before (inl bad) is = absurd cc
-longer false size held before (inr whole) is = omega (arith, whole, length-append before held)
+longer late size held before long is = search (rules, length-append)
 
 pub between-none : {mode : LineMode} {size : ℕ} {r w : State}
     → IsBetweenReads mode size false [] (from_to r r) (from_to w w) 0
@@ -109,41 +102,18 @@ module _ {mode : LineMode} {size count : ℕ} {late : Bool} {held : List ℕ} {r
 
   -- the lines that have ended were answered
   so-far : AreFilterAnswers mode size (complete_lines false state.answered.bytes) state.answered.output
-  so-far =
-      filtered-so-far mode size state.answered.bytes (state.before ++ held) state.answered.output
-      state.answered.filtered free
+  so-far = search (rules, filtered-so-far, free)
 
   -- all reads were made
   pub ends-endless : 2 ^ 64 - 1 ≤ count
       → FilterEndsAs mode size (from_to r0 r1) (from_to w0 w1) (Err filter_error.Endless)
-  ends-endless all =
-      let it = state.answered in
-      record {
-        input = it.bytes;
-        answers = it.output;
-        output = it.output;
-        gives = it.given;
-        takes = it.taken;
-        answered = rw (it.not_ended (omega (arith, all))) so-far;
-        by_result = (
-          it.input_unfailed,
-          it.only_reads,
-          omega (arith, all, it.counted),
-          it.written_unfailed,
-          it.only_writes,
-          refl,
-        );
-        reads = inl it.only_reads;
-        writes = inl it.only_writes;
-        prompt = (it.prompt.0, it.prompt.1, it.prompt.3);
-      }
+  ends-endless all = search (rules, so-far)
 
   -- one more read, after what was written
   module _ (r2 : State) (call : Call) (known : Consumes r1.bytes r2.bytes (bytes_in call))
       (is : r2.calls ≡ call ∷ (After (bytes_of w1.calls) ∷ r1.calls)) where
     given-more : Gives (from_to r0 r2) (state.answered.bytes ++ bytes_in call)
-    given-more = gives-then state.answered.given
-        (record { moved = ap bytes_of is ∙ ap (λ (t : List ℕ). t ++ bytes_in call) (append-nil _); known = known })
+    given-more = grind (arith, common_steps)
 
     failures : failures_in r2.calls ≡ failures_in r0.calls + failure_in call
     failures = omega (arith, ap failures_in is, state.answered.input_unfailed)
@@ -226,11 +196,7 @@ module _ {mode : LineMode} {size count : ℕ} {late : Bool} {held : List ℕ} {r
   -- a read gave more, which the buffer holds after what it held: the lines so far, up to that
   far : (more piece : List ℕ) → piece ≡ held ++ more
       → IsFilteredTo mode size (state.answered.bytes ++ more) (state.before ++ piece) state.answered.output
-  far more piece holds =
-      subst (λ (t : List ℕ). IsFilteredTo mode size (state.answered.bytes ++ more) t state.answered.output)
-      (append_assoc state.before held more ∙ ap (λ (t : List ℕ). state.before ++ t) (sym holds))
-      (filtered-more mode size state.answered.bytes (state.before ++ held) state.answered.output more
-      state.answered.filtered)
+  far more piece holds = search (rules, append_assoc, filtered-more)
 
   module _ {r2 w2 : State} {more piece : List ℕ} (known : Consumes r1.bytes r2.bytes more)
       (is : r2.calls ≡ Moved more ∷ (After (bytes_of w1.calls) ∷ r1.calls)) (holds : piece ≡ held ++ more)
@@ -287,11 +253,7 @@ module _ {mode : LineMode} {size count : ℕ} {late : Bool} {held : List ℕ} {r
 -- what was searched before a read stays so
 pub searched-front : (n : ℕ) (front more piece : List ℕ) → length front ≡ n → piece ≡ front ++ more → HasNoFeed front
     → HasNoFeed (take n piece)
-searched-front n front more piece size is none =
-    subst (λ (t : List ℕ). HasNoFeed t)
-    (sym
-    (ap (λ (t : List ℕ). take n t) is ∙ ap (λ (m : ℕ). take m (front ++ more)) (sym size)
-    ∙ take-append_seam front more)) none
+searched-front n front more piece size is none = search (rules, take-append_seam)
 
 -- a read that gave some byte moved it, and one that gave none, with room for one, found the end
 module _ {before after : List Call} (count : ℕ) (buffer : List ℕ)
@@ -316,17 +278,4 @@ length-read held xs ys within size = search (rules, places)
 pub has-read : (held taken size : ℕ) (xs ys : List ℕ) → held < length xs → length xs ≡ size → taken ≤ length ys
     → length ys ≡ length (take (length xs - held) (drop held xs)) → HasRead held taken size xs ys
 has-read held taken size xs ys within same count room =
-    let given : length ys ≡ length xs - held =
-    omega (arith, room, length-take (length xs - held) (drop held xs), length-drop held xs) in
-    let front : length (take held xs) ≡ held = omega (arith, length-take held xs, within) in
-    let whole = length-read held xs ys (omega (arith, within)) given in
-    record {
-      room = omega (arith, given, within);
-      piece =
-          ap (λ (m : ℕ). take (m + taken) (put_mid held (length xs - held) xs ys)) (sym front)
-          ∙ take-append-add (take held xs) (ys ++ post_of held (length xs - held) xs) taken
-          ∙ ap (λ (t : List ℕ). take held xs ++ t)
-          (take-append-le taken ys (post_of held (length xs - held) xs) count);
-      fits = omega (arith, length-take (held + taken) (put_mid held (length xs - held) xs ys), whole, same);
-      whole = whole ∙ same;
-    }
+    search (rules, length-take, length-drop, length-read, take-append-add, take-append-le)

@@ -1,18 +1,17 @@
 -- The lines that an iterator has left.
-use Rattle.triples.proofs.Common.{◌++◌, ◌+◌, ◌<◌, ◌==◌, ◌∙◌, ◌∷◌, ◌≡◌, AllByRecursion, Bool, IsUtf8, List, MatchOption}
-use Rattle.triples.proofs.Common.{None, Option, Some, [], ap, arith, drop, false, get_or, if◌then◌else◌, length}
+use Rattle.std.proofs.lemmas.List.{get_or_default, nil_from_length}
+use Rattle.std.proofs.lemmas.Str.{IsCharBoundary-after_ascii, IsCharBoundary-at_seam, IsUtf8-append, IsUtf8-drop}
+use Rattle.std.proofs.lemmas.Str.{IsUtf8-from_ascii, IsUtf8-take}
+use Rattle.std.proofs.{Math.Seq.drop-append-add, Math.Seq.get_or-append_seam, lemmas.Str.Pattern.drop_at_char}
+use Rattle.std.proofs.{lemmas.List.Splits.join_with_byte-slice_split, lemmas.Str.Pattern.NoCharPasses-char}
+use Rattle.std.specs.{List.All, List.join_with_byte, Str.IsAscii, Str.Iter.split_has_more, Str.Pattern.FindsChar}
+use Rattle.std.specs.{Str.Iter.split_terminator_steps, Str.NoCharPasses, declared.str.SplitTerminator.SplitTerminator}
+use Rattle.triples.proofs.Common.{List, MatchOption, None, Option, Some, [], ap, arith, drop, false, get_or, length}
+use Rattle.triples.proofs.Common.{if◌then◌else◌, ◌++◌, ◌+◌, ◌<◌, ◌==◌, ◌∙◌, ◌∷◌, ◌≡◌, AllByRecursion, Bool, IsUtf8}
 use Rattle.triples.proofs.Common.{length-append, length-slice_split, line_feed, lines_of, ne_eqb}
-use Rattle.triples.proofs.Common.{parts_without_empty_last, refl, slice_split, slice_split_at, slice_split_none}
-use Rattle.triples.proofs.Common.{split_terminator_parts, split_terminator_pattern, split_text, subst, suc, sym, take}
-use Rattle.triples.proofs.Common.{take-append-drop, take-append_seam, true, zero, ℕ}
-use Rattle.std.proofs.{Common.lit<, lemmas.List.get_or_default, lemmas.List.nil_from_length}
-use Rattle.std.proofs.{lemmas.List.Splits.join_with_byte-slice_split, lemmas.Str.IsUtf8-append, lemmas.Str.IsUtf8-drop}
-use Rattle.std.proofs.{lemmas.Str.IsUtf8-from_ascii, lemmas.Str.IsUtf8-take, lemmas.Str.IsCharBoundary-after_ascii}
-use Rattle.std.proofs.{lemmas.Str.IsCharBoundary-at_seam, Math.Seq.drop-append-add, Math.Seq.get_or-append_seam}
-use Rattle.std.proofs.{lemmas.Str.Pattern.NoCharPasses-char, lemmas.Str.Pattern.drop_at_char}
-use Rattle.std.specs.List.{All, join_with_byte}
-use Rattle.std.specs.Str.{IsAscii, NoCharPasses, Pattern.FindsChar, Iter.split_has_more, Iter.split_terminator_steps}
-use Rattle.std.specs.declared.str.SplitTerminator.{SplitTerminator}
+use Rattle.triples.proofs.Common.{parts_without_empty_last, refl, rules, slice_split, slice_split_at, slice_split_none}
+use Rattle.triples.proofs.Common.{split_terminator_parts, split_terminator_pattern, split_text, subst, sym, take}
+use Rattle.triples.proofs.Common.{take-append-drop, take-append_seam, true, ℕ}
 
 abbrev is_line_feed : ℕ → Bool
 is_line_feed b = b == line_feed
@@ -24,10 +23,7 @@ lines_left it =
 
 pub stays-first : (part : List ℕ) (parts : List (List ℕ)) → 0 < length part + length parts
     → parts_without_empty_last (part ∷ parts) ≡ part ∷ parts_without_empty_last parts
-stays-first [] [] some = absurd (omega arith)
-stays-first [] (next ∷ parts) some = refl
-stays-first (b ∷ bs) [] some = refl
-stays-first (b ∷ bs) (next ∷ parts) some = refl
+stays-first part parts some = search rules
 
 has-none : (text : List ℕ) → NoCharPasses is_line_feed text → All (λ b. is_line_feed b ≡ false) text
 has-none text none k d below =
@@ -59,36 +55,18 @@ lines_of-cut text line rest more (Some at) finds cut some =
 -- each part is the next line
 pub lines_left-some : (it next : SplitTerminator ℕ) (line : _) → split_terminator_pattern it ≡ line_feed
     → split_terminator_steps FindsChar (λ c d. d ≡ c) it (Some line) next → lines_left it ≡ line.now ∷ lines_left next
-lines_left-some it next line pattern steps =
-    let cut = steps.2.1 in
-    let text = split_text (split_terminator_parts it) in
-    rw steps.0
-    (lines_of-cut text line.now _ _ cut.0 (subst (λ (c : ℕ). FindsChar c text cut.0) pattern cut.1) cut.2 steps.3)
+lines_left-some it next line pattern steps = search (rules, lines_of-cut)
 
 no-lines : (text : List ℕ) (found : Option (ℕ × ℕ)) → FindsChar line_feed text found
     → MatchOption found (length text ≡ 0) (λ at. at.1 ≡ 0) → lines_of text ≡ []
-no-lines text None finds end = ap lines_of (nil_from_length text end)
-no-lines text (Some at) finds end = absurd (omega (arith, finds.1.ends, end))
+no-lines text found finds end = search (rules, nil_from_length)
 
 pub lines_left-none : (it next : SplitTerminator ℕ) → split_terminator_pattern it ≡ line_feed
     → split_terminator_steps FindsChar (λ c d. d ≡ c) it None next → lines_left it ≡ []
-lines_left-none it next pattern steps =
-    let text = split_text (split_terminator_parts it) in
-    elim (split_has_more (split_terminator_parts it)) as
-    (λ b.
-    (b ≡ true
-    → (found : Option (ℕ × ℕ)) × FindsChar (split_terminator_pattern it) text found × MatchOption found
-    (length text ≡ 0) (λ at. at.1 ≡ 0))
-    → (if b then lines_of text else []) ≡ []) [
-      | true ↦ λ end. let found = end refl in
-          no-lines text found.0 (subst (λ (c : ℕ). FindsChar c text found.0) pattern found.1) found.2
-      | false ↦ λ _. refl
-    ]
-    steps.0
+lines_left-none it next pattern steps = search (rules, no-lines)
 
 feed-ascii : IsAscii (line_feed ∷ [])
-feed-ascii zero = lit< tt
-feed-ascii (suc i) = lit< tt
+feed-ascii is = search rules
 
 -- each line of UTF-8 is UTF-8
 module _ (line rest : List ℕ) (utf8 : IsUtf8 (line ++ (line_feed ∷ rest))) where
@@ -126,6 +104,4 @@ stay-utf8 ([] ∷ next ∷ parts) all = (all.0, stay-utf8 (next ∷ parts) all.1
 stay-utf8 ((b ∷ bs) ∷ next ∷ parts) all = (all.0, stay-utf8 (next ∷ parts) all.1)
 
 pub lines-utf8 : (input : List ℕ) → IsUtf8 input → AllByRecursion IsUtf8 (lines_of input)
-lines-utf8 input utf8 =
-    stay-utf8 (slice_split is_line_feed input)
-    (parts-utf8 (slice_split is_line_feed input) (subst IsUtf8 (sym (join_with_byte-slice_split line_feed input)) utf8))
+lines-utf8 input utf8 = search (rules, stay-utf8, parts-utf8, join_with_byte-slice_split)

@@ -1,17 +1,15 @@
 -- The laws of mode `matrix`.
-use Rattle.triples.proofs.Common.{◌++◌, ◌||◌, ◌∙◌, ◌∷◌, ◌≡◌, Answer, AreAnswers, Bool, EveryStringHasOneOutcome}
-use Rattle.triples.proofs.Common.{IsAnswer, List, ParsesAs, Refused, Shown, Values, [], answer_bytes, ap, append-nil}
-use Rattle.triples.proofs.Common.{bytes_eq, bytes_eq-Decides, canonical_string, false, if◌then◌else◌, is_kept_after}
-use Rattle.triples.proofs.Common.{kept_answers, list_any, map, matrix_of, not, or-false, refl, shows, string_of, subst}
-use Rattle.triples.proofs.Common.{sym, take, true, ℕ}
-use Rattle.std.proofs.{Common.cond, Math.Bool.or-true, lemmas.Bool.not-false, lemmas.List.Elements.filter-append}
+use Rattle.std.proofs.{Common.cond, Math.Bool.or-true, lemmas.List.Elements.filter-append}
 use Rattle.std.specs.{Cmp.Lexicographic.same_text, List.filter}
-use Rattle.target_lexicon.specs.FixedPoints.{ParsedTriplesArePlain, RoundIsNormalStep, CanonicalStringsAreKeys}
-use Rattle.target_lexicon.specs.FixedPoints.{canonical_values}
-use Rattle.target_lexicon.specs.{NormalStep.normal_step, Laws.EqualTextsEqualTriples}
-use Rattle.triples.specs.MatrixLaws.{EntriesAreCanonicalTriples, entries_of, is_refusal, FirstEntriesStayInOrder}
-use Rattle.triples.specs.MatrixLaws.{EachCanonicalTripleHasAnEntry, only_entries, MatricesAreTheirOwn}
+use Rattle.target_lexicon.specs.FixedPoints.{CanonicalStringsAreKeys, ParsedTriplesArePlain, RoundIsNormalStep}
+use Rattle.target_lexicon.specs.{FixedPoints.canonical_values, Laws.EqualTextsEqualTriples, NormalStep.normal_step}
 use Rattle.triples.proofs.AnswerLemmas.{if_stays, push-any, staying-push}
+use Rattle.triples.proofs.Common.{Answer, ParsesAs, Shown, Values, bytes_eq, false, list_any, or-false, shows, subst, ℕ}
+use Rattle.triples.proofs.Common.{AreAnswers, Refused, answer_bytes, append-nil, is_kept_after, kept_answers, string_of}
+use Rattle.triples.proofs.Common.{if◌then◌else◌, EveryStringHasOneOutcome, IsAnswer, bytes_eq-Decides, canonical_string}
+use Rattle.triples.proofs.Common.{◌++◌, ◌||◌, ◌∙◌, ◌∷◌, ◌≡◌, Bool, List, [], ap, map, not, refl, rules, sym, take, true}
+use Rattle.triples.specs.MatrixLaws.{EachCanonicalTripleHasAnEntry, EntriesAreCanonicalTriples, FirstEntriesStayInOrder}
+use Rattle.triples.specs.MatrixLaws.{MatricesAreTheirOwn, entries_of, is_refusal, only_entries}
 
 -- two lines that parse have the same entry if and only if their canonical triples are equal
 
@@ -34,18 +32,11 @@ entry-case : (before is stays : Bool) (test : Answer → Bool) (line : Answer) (
     → (is ≡ true → stays ≡ not before)
     → filter test (if_stays stays line) ++ (if before || is then [] else take 1 rest)
     ≡ (if before then [] else take 1 (cond is (line ∷ rest) rest))
-entry-case true true stays test line rest is alike = rw (alike refl) refl
-entry-case false true stays test line rest is alike = rw (alike refl, is) refl
-entry-case true false true test line rest is alike = rw is refl
-entry-case true false false test line rest is alike = refl
-entry-case false false true test line rest is alike = rw is refl
-entry-case false false false test line rest is alike = refl
+entry-case before is stays test line rest is2 alike = search rules
 
 stays-alike : (text : List ℕ) (before : List Answer) (line : Answer) → shows text line ≡ true
     → is_kept_after before line ≡ not (list_any (shows text) before)
-stays-alike text before (Shown other) is =
-    ap (λ (t : List ℕ). not (list_any (shows t) before)) (sym (same_text text other (sym is)))
-stays-alike text before (Refused message) is = absurd cc
+stays-alike text before line is = search rules
 
 pub entries-staying : (text : List ℕ) (before lines : List Answer)
     → entries_of text (kept_answers before lines)
@@ -93,17 +84,7 @@ one-passes test (x ∷ xs) some =
     [ true ↦ λ one. refl | false ↦ one-passes test xs ]) some
 
 pub first_entries_stay_in_order : FirstEntriesStayInOrder
-first_entries_stay_in_order = record {
-  none = refl;
-  others = λ before. record {
-    refusal = λ message. staying-push [] before (Refused message);
-    first = λ text none. staying-push [] before (Shown text)
-        ∙ ap (λ any. matrix_of before ++ if_stays (not any) (Shown text)) (none-passes (shows text) before none);
-    again = λ text some. staying-push [] before (Shown text)
-        ∙ ap (λ any. matrix_of before ++ if_stays (not any) (Shown text)) (one-passes (shows text) before some)
-        ∙ append-nil (matrix_of before);
-  };
-}
+first_entries_stay_in_order = search (rules, staying-push, if_stays, none-passes, one-passes, append-nil)
 
 -- the canonical triple of each line that parses is there
 
@@ -152,15 +133,11 @@ HaveSameEntries xs ys = (text : List ℕ) → list_any (shows text) xs ≡ list_
 
 -- a line whose entry is already there adds none
 or-there : (there is : Bool) → (is ≡ true → there ≡ true) → (there || is) ≡ there
-or-there true is implied = refl
-or-there false false implied = refl
-or-there false true implied = absurd (let bad = implied refl in cc)
+or-there there is implied = search rules
 
 there-again : (xs : List Answer) (text other : List ℕ) → not (list_any (shows text) xs) ≡ false
     → bytes_eq other text ≡ true → list_any (shows other) xs ≡ true
-there-again xs text other stays is =
-    ap (λ (t : List ℕ). list_any (shows t) xs) (same_text other text (sym is))
-    ∙ not-false (list_any (shows text) xs) stays
+there-again xs text other stays is = search rules
 
 -- the entries that stay after some lines and the entry for a string
 abbrev entries_more : List Answer → List ℕ → List Answer → List Answer
@@ -234,7 +211,4 @@ module _ (one : EveryStringHasOneOutcome) (plain : ParsedTriplesArePlain) (round
   are-own _ _ are = absurd are
 
   pub matrices_are_their_own : MatricesAreTheirOwn
-  matrices_are_their_own lines answers are = record {
-    settled = staying-own [] answers (are-own lines answers are);
-    stays = stay-again [] [] answers (λ text. refl);
-  }
+  matrices_are_their_own lines answers are = search (rules, staying-own, are-own, stay-again)

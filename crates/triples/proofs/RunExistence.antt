@@ -1,16 +1,16 @@
 -- Each input has an outcome in each mode.
+use Rattle.target_lexicon.specs.Json.{IsElementParsed}
 use Rattle.triples.proofs.Common
-use Common.{◌++◌, ◌<◌, ◌∙◌, ◌∷◌, ◌≡◌, ◌≢◌, ◌⊎◌, Answer, AreAnswers, Bool, Data, Element, ElementsParseAs, Ended, Err}
 use Common.{EveryStringHasOneOutcome, Flushed, IsAnswer, IsFirstError, IsJsonAnswer, IsJsonErrorOf, IsReadWhole}
 use Common.{IsRefusedAs, IsUnfailed, IsUtf8, IsUtf8-from_is_utf8, Items, Json, JsonErrorValue, JsonParsesAs, List}
 use Common.{MatchOption, Matrix, Mode, Moved, None, NotText, Ok, Option, Parse, ParsesAs, Print, Refusal, Refused}
 use Common.{Result, RunEnds, RunError, RunGives, Settle, Show, Shown, Some, StopsOnce, Takes, Use, Values, []}
 use Common.{append-nil, arith, as_array, as_str, canonical_string, codes, compact_text, false, inl, inr, is_utf8}
 use Common.{is_utf8-from_IsUtf8, item, line_feed, lines_of, list_error_line, list_json_of, matrix_of, no_items, read}
-use Common.{refl, refusal_line, string_of, subst, suc, sym, text_with_facts, true, written_lines, zero, ℕ}
-use Rattle.target_lexicon.specs.Json.{IsElementParsed}
+use Common.{refl, refusal_line, rules, string_of, suc, sym, text_with_facts, true, written_lines, zero, ℕ}
+use Common.{◌++◌, ◌<◌, ◌∙◌, ◌∷◌, ◌≡◌, ◌≢◌, ◌⊎◌, Answer, AreAnswers, Bool, Data, Element, ElementsParseAs, Ended, Err}
+use Rattle.triples.proofs.{RunLawLemmas.Outcome, UniqueOutputs.IsJsonText, UniqueOutputs.zip-some}
 use Rattle.triples.specs.RunLaws.{EveryInputHasAnOutcome}
-use Rattle.triples.proofs.{UniqueOutputs.IsJsonText, UniqueOutputs.zip-some, RunLawLemmas.Outcome}
 use Rattle.triples.specs.declared.run_error.RunError.TheVariants as run_error
 
 -- an outcome that some result has
@@ -49,8 +49,7 @@ module _ (one : EveryStringHasOneOutcome) where
 
   before-next : (value : Data) (values : Items) (i : ℕ) → ((t : Values) × JsonParsesAs value t)
       → ((k : ℕ) → k < i → IsElementParsed values k) → (k : ℕ) → k < suc i → IsElementParsed (item value values) k
-  before-next value values i read before zero less = read
-  before-next value values i read before (suc k) less = before k (omega (arith, less))
+  before-next value values i read before k less = search rules
 
   elements-outcome : (elements : Items)
       → ((ts : List Values) × ElementsParseAs elements ts)
@@ -147,34 +146,13 @@ whole text = (refl, refl, refl, (refl, refl))
 
 ends : (mode : Mode) (text bytes : List ℕ) (result : Result (Unit {0}) RunError) → Outcome mode text result bytes
     → RunEnds mode (read_from text) (written_by result bytes) text bytes result
-ends mode text bytes (Ok _) is = (whole text, (refl, refl, (refl, refl)), is.0, is.1)
-ends mode text bytes (Err run_error.NotUtf8) is = (whole text, (refl, is.0, refl), is.1)
-ends mode text bytes (Err run_error.NotJson) is = (whole text, (refl, is.0, refl), is.1.0, is.1.1, is.1.2)
-ends mode text bytes (Err run_error.NotList) is = (whole text, (refl, is.0, refl), is.1.0, is.1.1, is.1.2)
-ends mode text bytes (Err _) is = absurd is.1
+ends mode text bytes result is = search rules
 
 -- a run with this outcome, and this writer
 gives-run : {mode : Mode} {text bytes : List ℕ} {result : Result (Unit {0}) RunError} (writer : Use)
     → Outcome mode text result bytes → RunEnds mode (read_from text) writer text bytes result → Takes writer bytes
     → IsUnfailed writer → StopsOnce writer → RunGives mode text result bytes
-gives-run {mode} {text} {bytes} writer is ends takes unfailed once = record {
-  reader = read_from text;
-  writer = writer;
-  ends = record {
-    input = text;
-    output = bytes;
-    gives = record { moved = append-nil text; known = sym (append-nil text) };
-    takes = takes;
-    reads = inr (refl, refl);
-    writes = once;
-    by_result = ends;
-  };
-  read_unfailed = refl;
-  write_unfailed = unfailed;
-  memory = λ out. (subst (λ (r : Result (Unit {0}) RunError). Outcome mode text r bytes) out is).1;
-  text_is = inr refl;
-  bytes_are = inl takes;
-}
+gives-run writer is ends takes unfailed once = search rules
 
 run-of : (mode : Mode) (text : List ℕ) (result : Result (Unit {0}) RunError) (bytes : List ℕ)
     → Outcome mode text result bytes → RunGives mode text result bytes

@@ -1,12 +1,10 @@
 -- What reads gave and writes took, call after call; and which input and output that makes.
-use Rattle.triples.proofs.Common.{◌++◌, ◌+◌, ◌↔◌, ◌∙◌, ◌≡◌, ◌≤◌, Call, Consumes, Gives, HasFailed, IsReadWhole}
-use Rattle.triples.proofs.Common.{IsUnfailed, IsWritten, Keeps, List, None, Option, Some, Takes, TakesBeginning, Use}
-use Rattle.triples.proofs.Common.{[], ap, append-nil, append_assoc, arith, bytes_of, drop, inl, inr, length}
-use Rattle.triples.proofs.Common.{length-append, refl, sym, take, take-append-add, take-append-drop, take-append_seam}
-use Rattle.triples.proofs.Common.{ℕ}
-use Rattle.std.proofs.KnownBytes.{Appends-kept, Appends-nil, Appends-trans, Consumes-trans, Consumes-whole}
-use Rattle.std.proofs.lemmas.List.{append_cancel_left}
+use Rattle.std.proofs.{KnownBytes.Appends-nil, lemmas.List.append_cancel_left}
 use Rattle.std.specs.Prelude.{IfSome}
+use Rattle.triples.proofs.Common.{IsUnfailed, IsWritten, Keeps, List, Option, Takes, TakesBeginning, Use, [], ap}
+use Rattle.triples.proofs.Common.{append-nil, append_assoc, arith, bytes_of, drop, length, length-append, rules, sym}
+use Rattle.triples.proofs.Common.{take, take-append-add, take-append-drop, take-append_seam, ℕ}
+use Rattle.triples.proofs.Common.{◌++◌, ◌+◌, ◌↔◌, ◌∙◌, ◌≡◌, ◌≤◌, Call, Consumes, Gives, HasFailed, IsReadWhole}
 use Rattle.triples.specs.RunLaws.{IsInput}
 
 -- a call that didn't fail has not failed
@@ -30,22 +28,15 @@ from_to a b =
 -- one call after the other
 module _ {a b c : State} {x : List ℕ} where
   pub takes-then : {y : List ℕ} → Takes (from_to a b) x → Takes (from_to b c) y → Takes (from_to a c) (x ++ y)
-  takes-then {y} first next = record {
-    moved = next.moved ∙ ap (λ (t : List ℕ). t ++ y) first.moved ∙ append_assoc _ x y;
-    known = Appends-trans a.bytes b.bytes c.bytes x y first.known next.known;
-  }
+  takes-then first next = search (rules, append_assoc)
 
   pub gives-then : {y : List ℕ} → Gives (from_to a b) x → Gives (from_to b c) y → Gives (from_to a c) (x ++ y)
-  gives-then {y} first next = record {
-    moved = next.moved ∙ ap (λ (t : List ℕ). t ++ y) first.moved ∙ append_assoc _ x y;
-    known = Consumes-trans a.bytes b.bytes c.bytes x y first.known next.known;
-  }
+  gives-then first next = search (rules, append_assoc)
 
   -- a call that moved nothing
   pub takes-kept : Takes (from_to a b) x → Keeps b.bytes c.bytes → bytes_of c.calls ≡ bytes_of b.calls
       → Takes (from_to a c) x
-  takes-kept first keeps same =
-      record { moved = same ∙ first.moved; known = Appends-kept a.bytes b.bytes c.bytes x first.known keeps }
+  takes-kept first keeps same = search rules
 
   -- what was taken before, and a beginning of more
   pub takes-part : (y : List ℕ) → Takes (from_to a b) x → TakesBeginning (from_to b c) y
@@ -74,26 +65,16 @@ module _ (reader : Use) (input text : List ℕ) where
   given-once a b = append_cancel_left (bytes_of reader.calls_before) input text (sym a.moved ∙ b.moved)
 
   pub input-is : IsInput reader text → Gives reader input → IsReadWhole reader → input ≡ text
-  input-is (inl given) gives whole = given-once gives given
-  input-is (inr known) gives whole =
-      rw known at
-      (Consumes-whole reader.bytes_before reader.bytes_after input (λ t. input ≡ t) gives.known whole.1 refl)
+  input-is is gives whole = search (rules, given-once)
 
   consumed-within : (before after : Option (List ℕ)) → Consumes before after input
       → IfSome before (λ t. length input ≤ length t)
-  consumed-within None after consumes = tt
-  consumed-within (Some xs) None consumes = absurd consumes
-  consumed-within (Some xs) (Some ys) consumes =
-      omega (arith, ap (λ (t : List ℕ). length t) consumes, length-append input ys)
+  consumed-within before after consumes = search (rules, length-append)
 
   -- without the end, they are no more than it
   pub input-within : IsInput reader text → Gives reader input → length input ≤ length text
-  input-within (inl given) gives = omega (arith, ap (λ (t : List ℕ). length t) (given-once gives given))
-  input-within (inr known) gives = rw known at (consumed-within reader.bytes_before reader.bytes_after gives.known)
+  input-within is gives = search (rules, given-once, consumed-within)
 
 -- what the writes took is the output
 pub output-is : (writer : Use) (output bytes : List ℕ) → IsWritten writer bytes → Takes writer output → output ≡ bytes
-output-is writer output bytes (inl taken) takes =
-    append_cancel_left (bytes_of writer.calls_before) output bytes (sym takes.moved ∙ taken.moved)
-output-is writer output bytes (inr known) takes =
-    sym (append_cancel_left known.0 bytes output (rw (known.1, known.2) at takes.known))
+output-is writer output bytes is takes = search (rules, append_cancel_left)

@@ -10,31 +10,20 @@ use Rattle.lexicon_fields.proofs.LookUpLemmas.{option_map-holds, option_or-holds
 use Rattle.lexicon_fields.proofs.ParsedSystems.{operating_system-read}
 use Rattle.lexicon_fields.proofs.laws.names_grow_at_most.Goals as goal
 
-pub returns-clause-vendor : goal.returns-clause-vendor
-unfolding vendor_of known_vendor_of
-returns-clause-vendor c = λ text v is.
-    MatchOption-at_some _ (λ v. vendor_name v ≡ text) v is (option_or-holds _ _ (custom_vendor_of text)
-    (option_map-holds _ _ Known (known_vendor_of text)
-    (holds-if_read _ _ (λ known found. value_named-named_values known_vendor_name known_vendors text known refl found))
-    (λ _ same. same))
-    (holds-if_read _ _ (λ custom found.
-    ap vendor_name (sym (cond_some (is_admitted text) (Custom text) custom found).1))))
-
-pub returns-clause-environment : goal.returns-clause-environment
-unfolding environment_of
-returns-clause-environment c =
-    λ text v found. value_named-named_values environment_name environment_values text v refl found
-
-pub returns-clause-binary_format : goal.returns-clause-binary_format
-unfolding binary_format_of
-returns-clause-binary_format c =
-    λ text v found. value_named-named_values binary_format_name binary_format_values text v refl found
-
-pub returns-clause-architecture : goal.returns-clause-architecture
-unfolding architecture_of
-returns-clause-architecture c = λ text a found.
-    leb-true _ _ (value_named-all (λ pair. nat_le (length (architecture_name pair.1)) (length pair.0 + 2))
-    architecture_texts text a refl found)
-
-pub returns-clause-operating_system : goal.returns-clause-operating_system
-returns-clause-operating_system c = λ text s is. (operating_system-read text s is).2
+pub returns : goal.returns
+unfolding vendor_of known_vendor_of environment_of binary_format_of architecture_of
+returns c = record {
+  vendor = λ text v is.
+      MatchOption-at_some _ (λ v. vendor_name v ≡ text) v is (option_or-holds _ _ (custom_vendor_of text)
+      (option_map-holds _ _ Known (known_vendor_of text)
+      (holds-if_read _ _ (λ known found.
+      value_named-named_values known_vendor_name known_vendors text known refl found)) (λ _ same. same))
+      (holds-if_read _ _ (λ custom found.
+      ap vendor_name (sym (cond_some (is_admitted text) (Custom text) custom found).1))));
+  environment = λ text v found. value_named-named_values environment_name environment_values text v refl found;
+  binary_format = λ text v found. value_named-named_values binary_format_name binary_format_values text v refl found;
+  architecture = λ text a found.
+      leb-true _ _ (value_named-all (λ pair. nat_le (length (architecture_name pair.1)) (length pair.0 + 2))
+      architecture_texts text a refl found);
+  operating_system = λ text s is. (operating_system-read text s is).2;
+}

@@ -28,48 +28,9 @@ returns-clause-architecture c =
       -- end of what is written
     ))
 
--- written by tools/names/write: answers about the equality of families
-pub returns-clause-arm : goal.returns-clause-arm
-returns-clause-arm c = bare-Decides contracts.arm.ArmArchitecture.the_type tt
-
-pub returns-clause-aarch64 : goal.returns-clause-aarch64
-returns-clause-aarch64 c = bare-Decides contracts.aarch64.Aarch64Architecture.the_type tt
-
-pub returns-clause-x86_32 : goal.returns-clause-x86_32
-returns-clause-x86_32 c = bare-Decides contracts.families.X86_32Architecture.the_type tt
-
-pub returns-clause-mips32 : goal.returns-clause-mips32
-returns-clause-mips32 c = bare-Decides contracts.families.Mips32Architecture.the_type tt
-
-pub returns-clause-mips64 : goal.returns-clause-mips64
-returns-clause-mips64 c = bare-Decides contracts.families.Mips64Architecture.the_type tt
-
-pub returns-clause-riscv32 : goal.returns-clause-riscv32
-returns-clause-riscv32 c = bare-Decides contracts.families.Riscv32Architecture.the_type tt
-
-pub returns-clause-riscv64 : goal.returns-clause-riscv64
-returns-clause-riscv64 c = bare-Decides contracts.families.Riscv64Architecture.the_type tt
-
-pub returns-clause-clever : goal.returns-clause-clever
-returns-clause-clever c = bare-Decides contracts.families.CleverArchitecture.the_type tt
-
-pub returns-clause-z80 : goal.returns-clause-z80
-returns-clause-z80 c = bare-Decides contracts.families.Z80Architecture.the_type tt
-
--- end of what is written
-
 pub returns-clause-operating_system : goal.returns-clause-operating_system
 returns-clause-operating_system c =
     enum-Decides operating_system.enum _ refl (search (rules, one_field-Decides, option_eq-Decides, version-Decides))
-
-pub returns-clause-environment : goal.returns-clause-environment
-returns-clause-environment c = bare-Decides environment.the_type tt
-
-pub returns-clause-binary_format : goal.returns-clause-binary_format
-returns-clause-binary_format c = bare-Decides binary_format.the_type tt
-
-pub returns-clause-known_vendor : goal.returns-clause-known_vendor
-returns-clause-known_vendor c = bare-Decides known_vendor.the_type tt
 
 pub returns-clause-fixed_row : goal.returns-clause-fixed_row
 returns-clause-fixed_row c x y =
@@ -86,7 +47,7 @@ returns-clause-fixed_row c x y =
     (same.text, (same.architecture, (same.vendor, (same.operating_system, (same.environment, same.binary_format))))))
     (Decides-and _ _ (bytes_eq-Decides x.text.now y.text.now)
     (Decides-and _ _ (option_eq-Decides _ (returns-clause-architecture c) x.architecture y.architecture)
-    (Decides-and _ _ (option_eq-Decides _ (returns-clause-known_vendor c) x.vendor y.vendor)
+    (Decides-and _ _ (option_eq-Decides _ (bare-Decides known_vendor.the_type tt) x.vendor y.vendor)
     (Decides-and _ _ (option_eq-Decides _ (returns-clause-operating_system c) x.operating_system y.operating_system)
-    (Decides-and _ _ (option_eq-Decides _ (returns-clause-environment c) x.environment y.environment)
-    (option_eq-Decides _ (returns-clause-binary_format c) x.binary_format y.binary_format))))))
+    (Decides-and _ _ (option_eq-Decides _ (bare-Decides environment.the_type tt) x.environment y.environment)
+    (option_eq-Decides _ (bare-Decides binary_format.the_type tt) x.binary_format y.binary_format))))))

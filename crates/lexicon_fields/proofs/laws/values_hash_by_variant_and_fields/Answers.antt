@@ -25,48 +25,6 @@ use Rattle.lexicon_fields.specs.contracts.operating_system.OperatingSystem as op
 use Rattle.lexicon_fields.specs.contracts.vendor.Vendor as vendor
 use Rattle.lexicon_fields.proofs.laws.values_hash_by_variant_and_fields.Goals as goal
 
--- written by tools/names/write: answers about the hashes of families
-pub returns-clause-arm : goal.returns-clause-arm
-returns-clause-arm c = bare_hash_injective contracts.arm.ArmArchitecture.enum tt (omega arith)
-
-pub returns-clause-aarch64 : goal.returns-clause-aarch64
-returns-clause-aarch64 c = bare_hash_injective contracts.aarch64.Aarch64Architecture.enum tt (omega arith)
-
-pub returns-clause-x86_32 : goal.returns-clause-x86_32
-returns-clause-x86_32 c = bare_hash_injective contracts.families.X86_32Architecture.enum tt (omega arith)
-
-pub returns-clause-mips32 : goal.returns-clause-mips32
-returns-clause-mips32 c = bare_hash_injective contracts.families.Mips32Architecture.enum tt (omega arith)
-
-pub returns-clause-mips64 : goal.returns-clause-mips64
-returns-clause-mips64 c = bare_hash_injective contracts.families.Mips64Architecture.enum tt (omega arith)
-
-pub returns-clause-riscv32 : goal.returns-clause-riscv32
-returns-clause-riscv32 c = bare_hash_injective contracts.families.Riscv32Architecture.enum tt (omega arith)
-
-pub returns-clause-riscv64 : goal.returns-clause-riscv64
-returns-clause-riscv64 c = bare_hash_injective contracts.families.Riscv64Architecture.enum tt (omega arith)
-
-pub returns-clause-clever : goal.returns-clause-clever
-returns-clause-clever c = bare_hash_injective contracts.families.CleverArchitecture.enum tt (omega arith)
-
-pub returns-clause-z80 : goal.returns-clause-z80
-returns-clause-z80 c = bare_hash_injective contracts.families.Z80Architecture.enum tt (omega arith)
-
--- end of what is written
-
-pub returns-clause-environment : goal.returns-clause-environment
-returns-clause-environment c = bare_hash_injective environment.enum tt (omega arith)
-
-pub returns-clause-binary_format : goal.returns-clause-binary_format
-returns-clause-binary_format c = bare_hash_injective binary_format.enum tt (omega arith)
-
-pub returns-clause-endianness : goal.returns-clause-endianness
-returns-clause-endianness c = bare_hash_injective endianness.enum tt (omega arith)
-
-pub returns-clause-pointer_width : goal.returns-clause-pointer_width
-returns-clause-pointer_width c = bare_hash_injective pointer_width.enum tt (omega arith)
-
 version_distinguishes : (x y : DeploymentTarget)
     → Distinguishes IsVersionInRange (λ v. v) version_hash.ghosts.hash_input x y
 version_distinguishes x y a b hx hy same =
@@ -76,9 +34,6 @@ version_distinguishes x y a b hx hy same =
       (λ i. record { major = major i; minor = minor i; patch = patch i }),
       ap writes_after_first (ap writes_after_first (ap writes_after_first same)),
     )
-
-pub returns-clause-version : goal.returns-clause-version
-returns-clause-version c = hash_injective_on version_distinguishes (λ x y. ap version_hash.ghosts.hash_input)
 
 -- an optional version
 system_version-distinguishes : (x y : Option DeploymentTarget)
@@ -91,37 +46,6 @@ system_version-distinguishes _ _ a b hx hy same = absurd (let bytes = ap first_b
 
 system_version-hash : HashInjectiveOn (λ v. IfSome v IsVersionInRange) (λ v. v) (option version_hash.ghosts.hash_input)
 system_version-hash = hash_injective_on system_version-distinguishes (λ x y. ap (option version_hash.ghosts.hash_input))
-
-pub returns-clause-architecture : goal.returns-clause-architecture
-returns-clause-architecture c =
-    enum_hash_injective architecture.enum _ (omega arith) (λ x. refl) (assumption (
-      -- written by tools/names/write: hashes of each family
-      one_field variants.Arm (returns-clause-arm c),
-      one_field variants.Aarch64 (returns-clause-aarch64 c),
-      one_field variants.X86_32 (returns-clause-x86_32 c),
-      one_field variants.Mips32 (returns-clause-mips32 c),
-      one_field variants.Mips64 (returns-clause-mips64 c),
-      one_field variants.Riscv32 (returns-clause-riscv32 c),
-      one_field variants.Riscv64 (returns-clause-riscv64 c),
-      one_field variants.Clever (returns-clause-clever c),
-      one_field variants.Z80 (returns-clause-z80 c),
-      -- end of what is written
-    ))
-
-pub returns-clause-operating_system : goal.returns-clause-operating_system
-returns-clause-operating_system c =
-    hash_injective_on (variants_distinguish operating_system.enum operating_system_hash.ghosts.hash_input (omega arith)
-    (λ x. refl) _ _ (assumption (
-      -- written by tools/names/write: hashes of each versioned system
-      one_field systems.Darwin system_version-hash,
-      one_field systems.IOS system_version-hash,
-      one_field systems.MacOSX system_version-hash,
-      one_field systems.TvOS system_version-hash,
-      one_field systems.VisionOS system_version-hash,
-      one_field systems.WatchOS system_version-hash,
-      one_field systems.XROS system_version-hash,
-      -- end of what is written
-    ))) (λ x y. ap operating_system_hash.ghosts.hash_input)
 
 custom_vendor-hash : HashInjectiveOn (λ (x : CustomVendor). Unit {0}) custom_string (λ x. str (custom_string x))
 custom_vendor-hash =
@@ -137,11 +61,54 @@ hash_by_value : (x : Vendor) → vendor_hash.ghosts.hash_input x ≡ value_hash 
 hash_by_value (vendors.Custom custom) = refl
 hash_by_value _ = refl
 
-pub returns-clause-vendor : goal.returns-clause-vendor
-returns-clause-vendor c =
-    hash_injective_on (variants_distinguish vendor.enum vendor_hash.ghosts.hash_input (omega arith) (λ x. refl)
-    _ _ (one_field Custom custom_vendor-hash, tt))
-    (λ x y same. hash_by_value x ∙ ap value_hash same ∙ sym (hash_by_value y))
-
-pub returns-clause-known_vendor : goal.returns-clause-known_vendor
-returns-clause-known_vendor c = bare_hash_injective known_vendor.enum tt (omega arith)
+pub returns : goal.returns
+returns c = record {
+  architecture =
+      enum_hash_injective architecture.enum _ (omega arith) (λ x. refl) (assumption (
+        -- written by tools/names/write: hashes of each family
+        one_field variants.Arm (bare_hash_injective contracts.arm.ArmArchitecture.enum tt (omega arith)),
+        one_field variants.Aarch64 (bare_hash_injective contracts.aarch64.Aarch64Architecture.enum tt (omega arith)),
+        one_field variants.X86_32 (bare_hash_injective contracts.families.X86_32Architecture.enum tt (omega arith)),
+        one_field variants.Mips32 (bare_hash_injective contracts.families.Mips32Architecture.enum tt (omega arith)),
+        one_field variants.Mips64 (bare_hash_injective contracts.families.Mips64Architecture.enum tt (omega arith)),
+        one_field variants.Riscv32 (bare_hash_injective contracts.families.Riscv32Architecture.enum tt (omega arith)),
+        one_field variants.Riscv64 (bare_hash_injective contracts.families.Riscv64Architecture.enum tt (omega arith)),
+        one_field variants.Clever (bare_hash_injective contracts.families.CleverArchitecture.enum tt (omega arith)),
+        one_field variants.Z80 (bare_hash_injective contracts.families.Z80Architecture.enum tt (omega arith)),
+        -- end of what is written
+      ));
+  -- written by tools/names/write: answers about the hashes of families
+  arm = bare_hash_injective contracts.arm.ArmArchitecture.enum tt (omega arith);
+  aarch64 = bare_hash_injective contracts.aarch64.Aarch64Architecture.enum tt (omega arith);
+  x86_32 = bare_hash_injective contracts.families.X86_32Architecture.enum tt (omega arith);
+  mips32 = bare_hash_injective contracts.families.Mips32Architecture.enum tt (omega arith);
+  mips64 = bare_hash_injective contracts.families.Mips64Architecture.enum tt (omega arith);
+  riscv32 = bare_hash_injective contracts.families.Riscv32Architecture.enum tt (omega arith);
+  riscv64 = bare_hash_injective contracts.families.Riscv64Architecture.enum tt (omega arith);
+  clever = bare_hash_injective contracts.families.CleverArchitecture.enum tt (omega arith);
+  z80 = bare_hash_injective contracts.families.Z80Architecture.enum tt (omega arith);
+  -- end of what is written
+  vendor =
+      hash_injective_on (variants_distinguish vendor.enum vendor_hash.ghosts.hash_input (omega arith) (λ x. refl)
+      _ _ (one_field Custom custom_vendor-hash, tt))
+      (λ x y same. hash_by_value x ∙ ap value_hash same ∙ sym (hash_by_value y));
+  version = hash_injective_on version_distinguishes (λ x y. ap version_hash.ghosts.hash_input);
+  operating_system =
+      hash_injective_on (variants_distinguish operating_system.enum operating_system_hash.ghosts.hash_input
+      (omega arith) (λ x. refl) _ _ (assumption (
+        -- written by tools/names/write: hashes of each versioned system
+        one_field systems.Darwin system_version-hash,
+        one_field systems.IOS system_version-hash,
+        one_field systems.MacOSX system_version-hash,
+        one_field systems.TvOS system_version-hash,
+        one_field systems.VisionOS system_version-hash,
+        one_field systems.WatchOS system_version-hash,
+        one_field systems.XROS system_version-hash,
+        -- end of what is written
+      ))) (λ x y. ap operating_system_hash.ghosts.hash_input);
+  environment = bare_hash_injective environment.enum tt (omega arith);
+  binary_format = bare_hash_injective binary_format.enum tt (omega arith);
+  endianness = bare_hash_injective endianness.enum tt (omega arith);
+  pointer_width = bare_hash_injective pointer_width.enum tt (omega arith);
+  known_vendor = bare_hash_injective known_vendor.enum tt (omega arith);
+}

@@ -12,9 +12,6 @@ same_sources : (s t : SourceValues) → s.architecture ≡ t.architecture → s.
     → s.environment ≡ t.environment → s.binary_format ≡ t.binary_format → s ≡ t
 same_sources s t a v o e f = λ i. source_values (a i) (v i) (o i) (e i) (f i)
 
-pub returns-clause-part : goal.returns-clause-part
-returns-clause-part c = search rules
-
 pub returns-clause-source : goal.returns-clause-source
 returns-clause-source c = search rules
 

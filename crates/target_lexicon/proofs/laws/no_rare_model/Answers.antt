@@ -1,6 +1,8 @@
-use Rattle.target_lexicon.proofs.Common.{arith}
-use Rattle.target_lexicon.proofs.ModelsKnown.{one_of_three}
+use Rattle.target_lexicon.proofs.{Common.inl, Common.inr, ModelsKnown.one_of_three}
 use Rattle.target_lexicon.proofs.laws.no_rare_model.Goals as goal
 
 pub returns : goal.returns
-returns c = grind (arith, one_of_three)
+returns c t = (
+  λ rare. elim (one_of_three t _ rare) [ inl is ↦ cc | inr other ↦ elim other [ inl is ↦ cc | inr is ↦ cc ] ],
+  λ rare. elim (one_of_three t _ rare) [ inl is ↦ cc | inr other ↦ elim other [ inl is ↦ cc | inr is ↦ cc ] ],
+)

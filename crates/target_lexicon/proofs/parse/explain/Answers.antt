@@ -72,9 +72,8 @@ loop-rest-preserved c =
       reading = taken-read text _ _ c.loop-rest.reading c.take.new.self on c.in_default-take.ensures.taken;
     }
 
-abbrev refused-at : (c : goal.After-result-1) → IsRefusedAfter c.args.text.now (refusal_value c.in-Err.refusal)
-    (sources_of c.take.new.self.sources) (part_value c.in-Err.refusal.part)
-refused-at c =
+pub returns-in-Err : goal.returns-in-Err
+returns-in-Err c =
     let text = c.args.text.now in
     let left = c.in-Some-rest.left in
     let name = c.first_part.result.0.now in
@@ -84,41 +83,31 @@ refused-at c =
     let within = c.loop-rest.invariant.range left c.in-Some-rest.is in
     let on = part-left text name b c.loop-rest.rest left others c.in-Some-rest.is within c.first_part.ensures.parts
     c.first_part.ensures.size c.loop-rest.invariant.reading in
-    let refused = c.in-Err.ensures.refused in
-    subst (λ (it : Reading). IsRefusedAfter text (refusal_value c.in-Err.refusal) (sources_of it.sources)
+    let at = c.in-Err.ensures.refused in
+    let it = subst (λ (it : Reading). IsRefusedAfter text (refusal_value c.in-Err.refusal) (sources_of it.sources)
     (part_value c.in-Err.refusal.part)) (sym c.in-Err.ensures.same)
     (subst (λ (p : PlacedPart). IsRefusedAfter text (refusal_with c.in-Err.refusal.expected p.text) b.sources p)
-    (sym refused.refused)
-    (subst (λ (e : Option Field). IsRefusedAfter text (refusal_with e name) b.sources part) (sym refused.expected)
-    (text-refused text b part (rest_parts text others) on refused.unparsed)))
+    (sym at.refused)
+    (subst (λ (e : Option Field). IsRefusedAfter text (refusal_with e name) b.sources part) (sym at.expected)
+    (text-refused text b part (rest_parts text others) on at.unparsed))) in
+    let in_text = refused-in _ _ _ _ it in
+    record {
+      triple = tt;
+      sources = tt;
+      error = (sym c.in_default.ensures, (it.0, it.1, it.2.refusal_holds));
+      refused = it;
+      ranges = in_text.0;
+      range = in_text.1;
+    }
 
-pub returns-in-Err-clause-error : goal.returns-in-Err-clause-error
-returns-in-Err-clause-error c = let it = refused-at c in (sym c.in_default.ensures, (it.0, it.1, it.2.refusal_holds))
-
-pub returns-in-Err-clause-refused : goal.returns-in-Err-clause-refused
-returns-in-Err-clause-refused c = refused-at c
-
-pub returns-in-Err-clause-ranges : goal.returns-in-Err-clause-ranges
-returns-in-Err-clause-ranges c = (refused-in _ _ _ _ (refused-at c)).0
-
-pub returns-in-Err-clause-range : goal.returns-in-Err-clause-range
-returns-in-Err-clause-range c = (refused-in _ _ _ _ (refused-at c)).1
-
-abbrev read-at : (c : goal.After-sources-1) → ParsesAs c.args.text.now (values_of_ref c.finish.result.0)
-    × AreSourcesOf c.args.text.now (sources_of c.finish.result.1)
-    × AreInString c.args.text.now (sources_of c.finish.result.1)
-read-at c =
+pub returns : goal.returns
+returns c =
     let b = state_of c.loop-rest.reading in
     let on = subst (HasRead c.args.text.now b) (ap (rest_parts c.args.text.now) c.in_default-rest.is)
     c.loop-rest.invariant.reading in
+    let read : ParsesAs c.args.text.now (values_of_ref c.finish.result.0)
+    × AreSourcesOf c.args.text.now (sources_of c.finish.result.1)
+    × AreInString c.args.text.now (sources_of c.finish.result.1) =
     rw (c.finish.ensures.triple, c.finish.ensures.sources)
-    (text-read c.args.text.now b (sym c.in_default.ensures) on)
-
-pub returns-clause-triple : goal.returns-clause-triple
-returns-clause-triple c = (read-at c).0
-
-pub returns-clause-sources : goal.returns-clause-sources
-returns-clause-sources c = (read-at c).1
-
-pub returns-clause-ranges : goal.returns-clause-ranges
-returns-clause-ranges c = (read-at c).2
+    (text-read c.args.text.now b (sym c.in_default.ensures) on) in
+    record { triple = read.0; sources = read.1; error = tt; refused = tt; ranges = read.2; range = tt }

@@ -1,20 +1,11 @@
 -- The loop has answered the lines before `start`; what is left after the last line feed begins there.
-use Rattle.triples.proofs.Common.{◌++◌, ◌∙◌, ◌≤◌, HasNoFeed, List, [], ap, arith, drop, length, length-drop, refl}
-use Rattle.triples.proofs.Common.{rules, subst, sym, take, ℕ}
-use Rattle.triples.proofs.FilterLemmas.{answers-none, no-bytes, rest-of, line-step, pushed-within}
-use Rattle.triples.proofs.UseLemmas.{takes-none, takes-then, takes-part}
+use Rattle.triples.proofs.Common.{◌++◌, HasNoFeed, List, ap, arith, drop, length, length-drop, refl, rules, subst, take}
+use Rattle.triples.proofs.FilterLemmas.{answers-none, line-step, no-bytes, pushed-within, rest-of}
+use Rattle.triples.proofs.{Common.◌∙◌, Common.ℕ, UseLemmas.takes-none, UseLemmas.takes-part, UseLemmas.takes-then}
 use Rattle.triples.proofs.filter.answer_lines.Goals as goal
 
 pub loop-at-init : goal.loop-at-init
-loop-at-init g c = record {
-  start = search rules;
-  from = c.requires.within;
-  searched = c.requires.searched;
-  used = search rules;
-  unfailed = refl;
-  moves = refl;
-  written = ([], takes-none, answers-none c.args.mode c.args.is_late c.args.bytes.now);
-}
+loop-at-init g c = search (rules, takes-none, answers-none)
 
 pub loop-at-preserved : goal.loop-at-preserved
 loop-at-preserved g c =
@@ -51,15 +42,10 @@ loop-at-preserved g c =
     }
 
 pub line_end-requires-clause-within : goal.line_end-requires-clause-within
-line_end-requires-clause-within g c =
-    let inv = c.loop-at.invariant in
-    subst (λ (t : List ℕ). c.loop-at.from ≤ length t) (sym (rest-of c.args.bytes.now c.loop-at.start)) inv.from
+line_end-requires-clause-within g c = search (rules, rest-of)
 
 pub line_end-requires-clause-searched : goal.line_end-requires-clause-searched
-line_end-requires-clause-searched g c =
-    let inv = c.loop-at.invariant in
-    subst (λ (t : List ℕ). HasNoFeed (take c.loop-at.from t)) (sym (rest-of c.args.bytes.now c.loop-at.start))
-    inv.searched
+line_end-requires-clause-searched g c = search (rules, rest-of)
 
 pub returns-in_default-make_room-clause-lines : goal.returns-in_default-make_room-clause-lines
 returns-in_default-make_room-clause-lines g c =

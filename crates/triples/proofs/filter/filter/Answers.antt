@@ -1,8 +1,8 @@
 -- The loop keeps what holds between two reads; each way out of it is one of the ends of `FilterEnds`.
-use Rattle.triples.proofs.Common.{◌-◌, ◌^◌, ◌∙◌, ◌≡◌, ◌≤◌, [], ap, arith, length, length-take, refl, take, ℕ}
 use Rattle.std.proofs.lemmas.Slice.{take-put_mid_below}
-use Rattle.triples.proofs.FilterLoop.{between-none, between-more, between-kept, ends-read, ends-rest, ends-write}
-use Rattle.triples.proofs.FilterLoop.{ends-endless, has-read, none-read, searched-front, some-read}
+use Rattle.triples.proofs.Common.{◌-◌, ◌^◌, ◌∙◌, ◌≡◌, ◌≤◌, [], ap, arith, length, length-take, refl, rules, take, ℕ}
+use Rattle.triples.proofs.FilterLoop.{between-kept, between-more, between-none, ends-endless, ends-read, ends-rest}
+use Rattle.triples.proofs.FilterLoop.{ends-write, has-read, none-read, searched-front, some-read}
 use Rattle.triples.proofs.filter.filter.Goals as goal
 
 pub loop-init : goal.loop-init
@@ -28,13 +28,7 @@ loop-preserved g c =
     }
 
 pub answer_lines-requires-clause-searched : goal.answer_lines-requires-clause-searched
-answer_lines-requires-clause-searched g c =
-    let read = c.in-Ok.ensures in
-    let inv = c.loop.invariant in
-    let it = has-read c.loop.held c.in-Ok.taken (length c.args.input.now) c.loop.input c.read_after.new.buf inv.held
-    inv.same_length read.bound.0 c.read_after.auto.buf in
-    searched-front c.loop.held (take c.loop.held c.loop.input) (take c.in-Ok.taken c.read_after.new.buf) _
-    (omega (arith, length-take c.loop.held c.loop.input, inv.held)) it.piece inv.state.none
+answer_lines-requires-clause-searched g c = search (rules, has-read, searched-front, length-take)
 
 pub returns-in_default : goal.returns-in_default
 returns-in_default g c =

@@ -1,7 +1,7 @@
-use Rattle.triples.proofs.Common.{◌+◌, ◌-◌, ◌∙◌, ◌≡◌, ◌≤◌, List, ap, arith, drop, inr, length, length-drop, refl, sym}
-use Rattle.triples.proofs.Common.{take, ℕ}
 use Rattle.std.proofs.lemmas.List.{drop-take}
-use lib.Seq.{take-paste, paste}
+use Rattle.triples.proofs.Common.{sym, take, ℕ}
+use Rattle.triples.proofs.Common.{◌+◌, ◌-◌, ◌∙◌, ◌≡◌, ◌≤◌, List, ap, arith, drop, inr, length, length-drop, refl, rules}
+use lib.Seq.{paste, take-paste}
 use Rattle.triples.proofs.filter.keep_rest.Goals as goal
 
 -- the bytes that are copied to the front are those from `start` on
@@ -20,10 +20,4 @@ returns-then-start-eq0-clause-kept c =
     inr (refl, c.if-is_late.false, ap (λ (n : ℕ). drop n (take c.args.end c.args.buffer.now)) (sym c.if-start-eq0.true))
 
 pub returns-clause-kept : goal.returns-clause-kept
-returns-clause-kept c =
-    inr (
-      refl,
-      c.if-is_late.false,
-      ap (λ (t : List ℕ). take (c.args.end - c.args.start) t) c.copy_within.ensures.after
-          ∙ kept c.args.buffer.now c.args.start c.args.end c.requires.order c.requires.within,
-    )
+returns-clause-kept c = search (rules, kept)

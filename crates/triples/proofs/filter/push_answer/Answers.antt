@@ -1,7 +1,7 @@
 -- The answer to a line that is UTF-8 is what is shown of its triple, or its refusal.
-use Rattle.triples.proofs.Common.{IsRefusedAs, List, ParsesAs, arith, not_utf8, refl, shown_by, subst, values_of_ref, ℕ}
 use Rattle.target_lexicon.specs.ValuesRef.{refusal_value}
-use Rattle.triples.proofs.FilterLemmas.{shown-pushes, shown-short, refused-pushes}
+use Rattle.triples.proofs.Common.{IsRefusedAs, List, not_utf8, refl, rules, subst, ℕ}
+use Rattle.triples.proofs.FilterLemmas.{refused-pushes, shown-pushes, shown-short}
 use Rattle.triples.proofs.filter.push_answer.Goals as goal
 
 pub returns-in_default : goal.returns-in_default
@@ -12,35 +12,13 @@ returns-in_default c = record {
 }
 
 pub put_shown-end-requires-clause-room : goal.put_shown-end-requires-clause-room
-put_shown-end-requires-clause-room c =
-    let line = c.in-Ok.ensures.cases in
-    let grown = c.printed_strings_grow_at_most.ensures in
-    let t = values_of_ref c.in-Ok-from_str.triple in
-    let reads = subst (λ (text : List ℕ). ParsesAs text t) line.0 c.in-Ok-from_str.ensures.ok in
-    omega (arith, shown-short grown.printed grown.settled c.args.mode c.args.line.now t reads, c.requires)
+put_shown-end-requires-clause-room c = search (rules, shown-short)
 
 pub put-requires-in-Ok-from_str : goal.put-requires-in-Ok-from_str
-put-requires-in-Ok-from_str c =
-    let line = c.in-Ok.ensures.cases in
-    let grown = c.printed_strings_grow_at_most.ensures in
-    let t = values_of_ref c.in-Ok-from_str.triple in
-    let reads = subst (λ (text : List ℕ). ParsesAs text t) line.0 c.in-Ok-from_str.ensures.ok in
-    let shown = c.put_shown-end.ensures in
-    omega (
-      arith,
-      shown-short grown.printed grown.settled c.args.mode c.args.line.now t reads,
-      c.requires,
-      shown.end_is,
-      shown.same_length,
-    )
+put-requires-in-Ok-from_str c = search (rules, shown-short)
 
 pub returns-in-Ok-from_str : goal.returns-in-Ok-from_str
-returns-in-Ok-from_str c =
-    let line = c.in-Ok.ensures.cases in
-    let t = values_of_ref c.in-Ok-from_str.triple in
-    let reads = subst (λ (text : List ℕ). ParsesAs text t) line.0 c.in-Ok-from_str.ensures.ok in
-    shown-pushes c.args.mode c.args.line.now t (shown_by c.args.mode t) _ _ _ _ _ _ line.1 reads refl
-    c.put_shown-end.ensures c.put-in-Ok-from_str.ensures
+returns-in-Ok-from_str c = search (rules, shown-pushes)
 
 pub returns-in-Err : goal.returns-in-Err
 returns-in-Err c =

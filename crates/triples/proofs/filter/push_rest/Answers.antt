@@ -1,13 +1,10 @@
-use Rattle.triples.proofs.Common.{◌<◌, ◌==◌, ◌∙◌, ◌≡◌, AnswersRest, List, arith, false, length, subst, suc, sym, true}
-use Rattle.triples.proofs.Common.{zero, ℕ}
-use Rattle.triples.proofs.FilterLemmas.{rest-answered}
+use Rattle.triples.proofs.Common.{◌<◌, ◌==◌, ◌∙◌, ◌≡◌, AnswersRest, List, false, length, rules, subst, sym, true, ℕ}
 use Rattle.triples.proofs.filter.push_rest.Goals.{else-not-is_late-via-then-not-is_late+else-is_empty}
-use Rattle.triples.proofs.filter.push_rest.Goals.{else-not-is_late-via-else-not-is_late}
+use Rattle.triples.proofs.{FilterLemmas.rest-answered, filter.push_rest.Goals.else-not-is_late-via-else-not-is_late}
 use Rattle.triples.proofs.filter.push_rest.Goals as goal
 
 not-empty : (n : ℕ) → (n == 0) ≡ false → 0 < n
-not-empty zero is = absurd (let bad : true ≡ false = is in cc)
-not-empty (suc n) is = omega arith
+not-empty n is = search rules
 
 pub returns-clause-answer : goal.returns-clause-answer
 returns-clause-answer c =

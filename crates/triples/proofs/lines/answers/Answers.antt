@@ -1,30 +1,13 @@
 -- Each iteration answers the first line that is left.
-use Rattle.triples.proofs.Common.{◌∙◌, arith, common_steps}
-use Rattle.triples.proofs.AnswerLemmas.{so-far-none, so-far-more, so-far-whole}
-use Rattle.triples.proofs.LineLemmas.{lines_left-some, lines_left-none}
+use Rattle.triples.proofs.AnswerLemmas.{so-far-more, so-far-none, so-far-whole}
+use Rattle.triples.proofs.{Common.common_steps, Common.rules, LineLemmas.lines_left-none, LineLemmas.lines_left-some}
 use Rattle.triples.proofs.lines.answers.Goals as goal
 
 pub loop-line-init : goal.loop-line-init
-loop-line-init c =
-    let made = c.split_terminator-line-items.ensures in
-    rw c.into_iter-line-iterator.ensures.into_iter_gives
-    record {
-      pattern = made.pattern;
-      shorter = rw made.text (omega arith);
-      so_far = rw (made.has_more, made.text) (so-far-none (grind (arith, common_steps)));
-    }
+loop-line-init c = search (rules, so-far-none, common_steps)
 
 pub loop-line-preserved : goal.loop-line-preserved
-loop-line-preserved c =
-    let inv = c.loop-line.invariant in
-    let steps = c.in-Some.ensures.steps in
-    record {
-      pattern = steps.1 ∙ inv.pattern;
-      shorter = omega (arith, steps.2.0, inv.shorter);
-      so_far =
-          so-far-more (lines_left-some c.loop-line.line-iterator c.next.new.self c.in-Some.line inv.pattern steps)
-          c.in_ok-push_answer.ensures inv.so_far;
-    }
+loop-line-preserved c = search (rules, so-far-more, lines_left-some)
 
 pub returns-clause-output : goal.returns-clause-output
 returns-clause-output c =

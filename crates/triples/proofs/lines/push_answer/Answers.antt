@@ -28,7 +28,4 @@ returns-after-mode-2 c =
     t c.in-Ok.ensures.ok grown (search rules)
 
 pub returns-in-Err : goal.returns-in-Err
-returns-in-Err c =
-    refusal-adds c.push_refusal.result (shown_by c.args.mode) c.args.line.now (string_bytes c.args.output.now)
-    (string_bytes c.push_refusal.new.output)
-    c.in-Err.error c.in-Err.ensures.err c.push_refusal.ensures
+returns-in-Err c = search (rules, refusal-adds)

@@ -1,20 +1,11 @@
 -- Each iteration adds the entry of the first line that is left.
-use Rattle.triples.proofs.Common.{◌∙◌, arith, common_steps}
-use Rattle.triples.proofs.AnswerLemmas.{matrix-none, matrix-more, matrix-whole, none-seen}
-use Rattle.triples.proofs.LineLemmas.{lines_left-some, lines_left-none}
+use Rattle.triples.proofs.AnswerLemmas.{matrix-more, matrix-none, matrix-whole, none-seen}
+use Rattle.triples.proofs.Common.{◌∙◌, arith, common_steps, rules}
+use Rattle.triples.proofs.LineLemmas.{lines_left-none, lines_left-some}
 use Rattle.triples.proofs.matrix.matrix.Goals as goal
 
 pub loop-line-init : goal.loop-line-init
-loop-line-init c =
-    let made = c.split_terminator-line-items.ensures in
-    rw c.into_iter-line-iterator.ensures.into_iter_gives
-    record {
-      pattern = made.pattern;
-      shorter = rw made.text (omega arith);
-      so_far =
-          rw (made.has_more, made.text)
-          (matrix-none (grind (arith, common_steps)) (none-seen c.new-seen.result c.new-seen.ensures.empty));
-    }
+loop-line-init c = search (rules, matrix-none, common_steps, none-seen)
 
 pub loop-line-preserved : goal.loop-line-preserved
 loop-line-preserved c =

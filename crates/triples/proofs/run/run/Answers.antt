@@ -1,5 +1,5 @@
 -- What was written is the output of the mode, and a flush keeps it.
-use Rattle.triples.proofs.Common.{arith, refl}
+use Rattle.triples.proofs.Common.{arith, refl, rules}
 use Rattle.triples.proofs.RunLawLemmas.{as-error, is-text, no-output-ends, write-ends, written-ends}
 use Rattle.triples.proofs.UseLemmas.{takes-all, takes-kept, takes-none}
 use Rattle.triples.proofs.run.run.Goals as goal
@@ -15,17 +15,7 @@ returns-in_err-output g c =
     }
 
 pub returns-in_err-write_all : goal.returns-in_err-write_all
-returns-in_err-write_all g c =
-    let line = c.in-Ok.ensures.cases in
-    let read = is-text c.in_ok-bytes.ensures.bytes c.in_ok-bytes.ensures.whole c.deref.ensures.value line.0 line.1 in
-    let failed = c.in_err-write_all.ensures in
-    record {
-      ends =
-          as-error c.from_residual-in_err-write_all.result c.from_residual-in_err-write_all.ensures.1
-          (rw failed.failed.0
-          (write-ends read _ c.in_ok-output.ensures.output (rw c.as_bytes.ensures.value at failed.begun)
-          failed.failed.1 failed.failed.2));
-    }
+returns-in_err-write_all g c = search (rules, is-text, as-error, write-ends)
 
 pub returns-in-Ok-flush : goal.returns-in-Ok-flush
 returns-in-Ok-flush g c =
@@ -44,15 +34,4 @@ returns-in-Ok-flush g c =
     }
 
 pub returns : goal.returns
-returns g c =
-    let line = c.in-Ok.ensures.cases in
-    let read = is-text c.in_ok-bytes.ensures.bytes c.in_ok-bytes.ensures.whole c.deref.ensures.value line.0 line.1 in
-    let wrote = c.in_ok-write_all.ensures in
-    let failed = c.in-Err.ensures in
-    record {
-      ends =
-          write-ends read _ c.in_ok-output.ensures.output
-          (takes-all
-          (takes-kept (rw c.as_bytes.ensures.value at wrote.whole) c.flush.ensures.bytes c.flush.ensures.moved))
-          (omega (arith, failed.count, wrote.unfailed)) (omega (arith, failed.stops, wrote.moves), failed.last);
-    }
+returns g c = search (rules, is-text, write-ends, takes-all, takes-kept)

@@ -1,11 +1,10 @@
 -- What was written before an error is a beginning of the line.
-use Rattle.triples.proofs.Common.{◌∷◌, [], line_feed}
+use Rattle.triples.proofs.Common.{◌∷◌, [], line_feed, rules}
 use Rattle.triples.proofs.UseLemmas.{takes-all, takes-kept, takes-more, takes-part, takes-then}
 use Rattle.triples.proofs.run.write_line.Goals as goal
 
 pub returns-in_err-write_all-clause-begun : goal.returns-in_err-write_all-clause-begun
-returns-in_err-write_all-clause-begun g c =
-    takes-more c.args.word.now _ (rw c.as_bytes.ensures.value at c.in_err-write_all.ensures.begun)
+returns-in_err-write_all-clause-begun g c = search (rules, takes-more)
 
 pub returns-in_err-write_all-2-clause-begun : goal.returns-in_err-write_all-2-clause-begun
 returns-in_err-write_all-2-clause-begun g c =

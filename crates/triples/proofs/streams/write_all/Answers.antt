@@ -1,6 +1,6 @@
 -- What was written so far and `rest` together are the bytes; so it is a beginning of them wherever the loop ends.
-use Rattle.triples.proofs.Common.{◌++◌, ◌∙◌, List, [], ap, append-nil, arith, common_steps, refl, sym, take}
 use Rattle.triples.proofs.Common.{take-append-drop, ℕ}
+use Rattle.triples.proofs.Common.{◌++◌, ◌∙◌, List, [], ap, append-nil, common_steps, refl, rules, sym, take}
 use Rattle.triples.proofs.UseLemmas.{takes-beginning, takes-kept, takes-none, takes-then}
 use Rattle.triples.proofs.streams.write_all.Goals as goal
 
@@ -8,19 +8,7 @@ pub loop-rest-init : goal.loop-rest-init
 loop-rest-init g c = record { taken = ([], refl, takes-none); unfailed = refl; moves = refl }
 
 pub loop-rest-preserved : goal.loop-rest-preserved
-loop-rest-preserved g c =
-    let inv = c.loop-rest.invariant.taken in
-    let piece = take c.in-Ok.taken c.loop-rest.rest.now in
-    let wrote = c.in-Ok.ensures in
-    record {
-      taken = (
-        inv.0 ++ piece,
-        grind (arith, common_steps, take-append-drop, inv.1),
-        takes-then {y = piece} inv.2 (record { moved = wrote.moved; known = wrote.bytes }),
-      );
-      unfailed = grind (arith, common_steps);
-      moves = grind (arith, common_steps);
-    }
+loop-rest-preserved g c = search (rules, common_steps, take-append-drop, takes-then)
 
 pub returns-then-taken-eq0-clause-begun : goal.returns-then-taken-eq0-clause-begun
 returns-then-taken-eq0-clause-begun g c =
@@ -39,5 +27,4 @@ returns-in_default-clause-begun g c =
     takes-beginning c.loop-rest.rest.now (takes-kept inv.2 failed.bytes (failed.moved ∙ append-nil _)) inv.1
 
 pub returns-clause-begun : goal.returns-clause-begun
-returns-clause-begun g c =
-    let inv = c.loop-rest.invariant.taken in takes-beginning c.loop-rest.rest.now inv.2 inv.1
+returns-clause-begun g c = search (rules, takes-beginning)

@@ -1,5 +1,5 @@
-use Rattle.lexicon_fields.proofs.Common.{◌++◌, ◌∙◌, ◌≡◌, ap, rules, sym, operating_system_name, version_suffix}
-use Rattle.std.proofs.{lemmas.List.append-nil, Output.has_written_styled_append, Output.has_written_styled_of_eq}
+use Rattle.lexicon_fields.proofs.Common.{◌++◌, ◌∙◌, ap, rules, sym, version_suffix}
+use Rattle.std.proofs.{Output.has_written_styled_append, Output.has_written_styled_of_eq}
 use Rattle.lexicon_fields.proofs.operating_system.OperatingSystemDisplay.fmt.Goals as goal
 
 pub returns-in-Some-clause-styled : goal.returns-in-Some-clause-styled
@@ -9,13 +9,3 @@ returns-in-Some-clause-styled g c = λ flush ok.
     let name = ap (λ v. c.prefix.result.now ++ version_suffix v) (sym c.in-Some.is ∙ c.version.ensures)
     ∙ c.prefix.ensures in
     has_written_styled_of_eq _ _ _ _ _ name (has_written_styled_append _ _ _ _ _ _ prefix version)
-
-pub returns-in-None : goal.returns-in-None
-returns-in-None g c =
-    let name : c.prefix.result.now ≡ operating_system_name c.args.self.now =
-    sym (append-nil c.prefix.result.now)
-    ∙ ap (λ v. c.prefix.result.now ++ version_suffix v) (sym c.in-None.is ∙ c.version.ensures) ∙ c.prefix.ensures in
-    record {
-      writes = λ plain ok. rw name at (c.write_str.ensures.writes plain (search rules));
-      styled = λ flush ok. rw name at (c.write_str.ensures.styled flush (search rules));
-    }

@@ -3,7 +3,6 @@ use Rattle.target_lexicon.proofs.PrintingLemmas.{string_of_pieces}
 use Rattle.target_lexicon.proofs.triple_ref.TripleRef.pieces.Goals as goal
 
 pub returns-clause-text : goal.returns-clause-text
-unfolding shows_operating_system
 returns-clause-text c =
     let t = values_of_ref c.args.self.now in
     let system : not c.omits_unknown_system.result ≡ shows_operating_system t = ap not c.omits_unknown_system.ensures in
