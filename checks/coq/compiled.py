@@ -100,7 +100,7 @@ def rustc(folder, features, *words, at="", older=False):
 def conditions(file, text):
     """That nothing but the features, and what no build of a user has, decides what is compiled."""
     text = text.replace('#[cfg(feature = "serde_support")]\nmod serde;', "")
-    names = r'\bfeature = "(?:alloc|std)"|\b(?:not|any|all|core_error|doc|docsrs|doctest|test)\b'
+    names = r'\bfeature = "(?:alloc|std)"|\b(?:not|any|all|core_error|docsrs|doctest|test)\b'
     for m in re.finditer(r"\bcfg\w*", text):
         it = re.compile(r"cfg(_attr)?!?\(").match(text, m.start())
         inner = text[it.end():close(text, it.end() - 1)] if it else m[0]
@@ -142,7 +142,7 @@ def version():
 
 
 def same(main, other, where):
-    """That another configuration has no type, impl or function that the main configuration doesn't have."""
+    """That another configuration has the types, impls and functions of the main configuration, and no others."""
     def items(text, hir):
         statics = dict(re.findall(r"^(alloc\d+) \(static: ([\w:]+),", text, re.M))
         text = re.sub(r"\balloc\d+\b", lambda m: statics.get(m[0], "alloc"), text)
@@ -154,7 +154,7 @@ def same(main, other, where):
         return {m[0] for m in re.finditer(ITEM, text) if m["name"] != "host::HOST" and not re.match(
             r"(const |static )?(fn )?serde::<", m[0])} | {str(it) for it in types.items()} | {
             f"{it.module}: {it.trait} for {it.owner}: {it.methods}" for it in impls if it.trait not in UNSAID}
-    if others := items(*other) - items(*main):
+    if others := items(*other) ^ items(*main):
         raise Untranslated(f"{where}, rustc compiles another item: {min(others).splitlines()[0][:200]}")
 
 
@@ -188,13 +188,6 @@ def path(it):
     return f"<{owner} as {trait}>::{name}" if trait else f"{owner}::{name}" if owner else name
 
 
-def write(root, folder, translated=None):
-    """Writes Mir.v, Same_mir.v, Compiled.v and Derived.v. Returns the theorems. The types are those of the translated
-    source, which is this one if it isn't said."""
-    with forms():
-        return written(root, folder, translated or root)
-
-
 @contextlib.contextmanager
 def forms():
     """A form of rustc's that isn't known is an error; one of another version is why nothing is proved of MIR."""
@@ -209,8 +202,10 @@ def forms():
         raise NoCompiler(f"{reason}, in what {version()} writes, while the form of {TRIED} is read") from None
 
 
-def written(root, folder, translated):
-    """`write`, with whatever error it has."""
+@forms()
+def write(root, folder, translated=None):
+    """Writes Mir.v, Same_mir.v, Compiled.v and Derived.v. Returns the theorems. The types are those of the translated
+    source, which is this one if it isn't said."""
     proofs = {it: HERE.joinpath(f"rust/{it}.v").read_text(encoding="utf-8") for it in shipped.CONFIGURATIONS["rust"][1]}
     theorems = re.findall(r"^Theorem (\w+)", "".join(proofs.values()), re.M)
     texts = {it: folder.joinpath(f"{it}.v").read_text(encoding="utf-8") for it in ("Specs", "Code", "Configured")}
@@ -218,7 +213,7 @@ def written(root, folder, translated):
     unwritten = all_of(crate)
     if unknown := [f"{why} (in {it})" for it, why in unwritten.items() if it not in LEFT_OUT]:
         raise Untranslated(unknown[0])
-    without_alloc = shipped.configurations(translated, texts["Specs"])["no_alloc"][1]
+    without_alloc = shipped.configurations(translated or root, texts["Specs"])["no_alloc"][1]
     same_without_alloc(root, crate, texts["Specs"] + "\n".join(without_alloc))
     put = lambda name, text: folder.joinpath(f"{name}.v").write_text(text, encoding="utf-8")  # noqa: E731
     put("Mir", "(* Written by checks/theorem from what rustc compiles. *)\n"
