@@ -379,6 +379,14 @@ LEXICON_CHECKED
 enum lexicon_status lexicon_name_suggestion(uint32_t dialect, const char *name, size_t name_size, char *out,
                                             size_t out_size, size_t *length);
 
+/* What else is known of a name that lexicon_read doesn't know in a dialect, or with LEXICON_DIALECT_NONE of a string that
+   is no triple, has no suggestion, and that lexicon_readers gives nobody for: its form with the dashes and quotes of
+   ASCII, if that is a name; what is wrong with it, such as capital letters; or what its words say. If that is nothing,
+   the status is LEXICON_NO_SUGGESTION. What isn't printable ASCII is escaped. */
+LEXICON_CHECKED
+enum lexicon_status lexicon_note(uint32_t dialect, const char *text, size_t text_size, char *out, size_t out_size,
+                                 size_t *length);
+
 /* The number of the value that a string names in one field, outside any triple. An alias gives the number of its value,
    a custom vendor LEXICON_VENDOR_CUSTOM, and a version is parsed and dropped. If the string names no value of the
    field, the status is the number of the field plus 1. Otherwise it is LEXICON_OK, LEXICON_NOT_UTF8,

@@ -58,8 +58,9 @@ pub(crate) fn line_and_caret(bytes: &[u8], error: &TextError, out: &mut Text) ->
 pub(crate) fn suggestion<'a>(bytes: &'a [u8], error: &TextError) -> Option<Suggestion<'a>> {
     let text = str::from_utf8(part(bytes, error).ok()?).ok()?;
     // What follows the part may be no text.
-    let before = str::from_utf8(&bytes[..error.start]).ok()?;
-    suggestion_in(before, expected_at(error.status)??, text)
+    let valid = str::from_utf8(bytes).map_or_else(|it| it.valid_up_to(), str::len);
+    let whole = str::from_utf8(bytes.get(..valid.max(error.end))?).ok()?;
+    suggestion_in(whole, expected_at(error.status)??, text)
 }
 
 /// The characters of some bytes. Each run of bytes that is none is a replacement character.

@@ -42,7 +42,7 @@ use numbers::*;
 use sources::FieldSources;
 use target_lexicon::{DeploymentTarget, Field, TextPart, TripleRef};
 use target_names::{
-    vendor_suggestion, Dialect, Name, NameError, Suggest as _, Suggestion, TargetInfo, TranslateError, Verdict,
+    vendor_suggestion, Dialect, Name, NameError, Note, Suggest as _, Suggestion, TargetInfo, TranslateError, Verdict,
     VersionOf, Versions, Word, WriteError,
 };
 use text::{shown, write_text, written, Text};
@@ -649,6 +649,24 @@ pub unsafe extern "C" fn lexicon_name_suggestion(
     let given = dialect_at(dialect).flatten().zip(name);
     let unknown = given.filter(|(dialect, name)| dialect.read_loosely(name) == Err(NameError::Unknown));
     unsafe { write_suggestion(unknown.and_then(|(dialect, name)| dialect.suggestion(name)), out, out_size, length) }
+}
+
+#[no_mangle]
+pub unsafe extern "C" fn lexicon_note(
+    dialect: u32, text: *const u8, text_size: usize, out: *mut u8, out_size: usize, length: *mut usize,
+) -> Status {
+    let text = match unsafe { text_at(text, text_size) } {
+        Err(error) if error.status == TOO_LARGE => return TOO_LARGE,
+        text => text.ok(),
+    };
+    let find = |(dialect, text): (Option<Dialect>, &'static str)| match dialect {
+        Some(it) => Note::of(text, dialect).filter(|_| it.read_loosely(text) == Err(NameError::Unknown)),
+        None => {
+            let is_whole = TripleRef::from_str(text).err()?.part.text == text;
+            Note::of(text, None).filter(|it| is_whole || matches!(it, Note::Ascii(_)))
+        }
+    };
+    unsafe { write_suggestion(dialect_at(dialect).zip(text).and_then(find), out, out_size, length) }
 }
 
 /// Writes a suggestion if there is one.

@@ -110,6 +110,7 @@ TEXT(settled_lines, lexicon_settle_lines(it->text, it->size, out, size, length))
 TEXT(error_text, lexicon_error_text(it->text, it->size, &it->error, out, size, length))
 TEXT(suggestion, lexicon_suggestion(it->text, it->size, &it->error, out, size, length))
 
+TEXT(note, lexicon_note(n[0], it->text, it->size, out, size, length))
 TEXT(name_suggestion, lexicon_name_suggestion(n[0], it->text, it->size, out, size, length))
 STRING(name, lexicon_name(n[0], n[1]))
 
@@ -395,6 +396,12 @@ static const struct row {
   {name_suggestion, "linux/amd46", {0}, LEXICON_NO_SUGGESTION, NULL},
   {name_suggestion, "linux/amd46", {77}, LEXICON_NO_SUGGESTION, NULL},
   {name_suggestion, "linux/\xff", {GO}, LEXICON_NO_SUGGESTION, NULL},
+  {note, "x86_64\xe2\x80\x93linux", {0}, LEXICON_OK, "with the dashes and quotes of ASCII it is `x86_64-linux`"},
+  {note, "linux/amr64", {0}, LEXICON_OK, "it names a system, and no single machine known here"},
+  {note, "Linux/AMD64", {GO}, LEXICON_OK, "capital letters matter"},
+  {note, "linux/amd64", {GO}, LEXICON_NO_SUGGESTION, NULL},
+  {note, "linux/amd64", {0}, LEXICON_NO_SUGGESTION, NULL},
+  {note, "linux/\xff", {77}, LEXICON_NO_SUGGESTION, NULL},
 
   {written, "x86_64-acme-linux-gnu", {DEBIAN}, LEXICON_OK, "amd64"},
   {written, "x86_64-acme-linux-gnu", {GNU}, LEXICON_OK, "x86_64-linux-gnu"},
@@ -545,8 +552,8 @@ static void try_bad_errors(void) {
 /* Sizes that no memory has, of which one is 4 with a bit more. What is there isn't looked at, and nothing is
    written. */
 static void try_too_large(void) {
-  static writes *const calls[] = {settled_lines, error_text, suggestion, name_suggestion, parsed, strict, read, meaning,
-      change, translated, number};
+  static writes *const calls[] = {settled_lines, error_text, suggestion, note, name_suggestion, parsed, strict, read,
+      meaning, change, translated, number};
   static writes *const strings[] = {reason, translate_reason};
   const size_t sizes[] = {(size_t)PTRDIFF_MAX + 1, (size_t)PTRDIFF_MAX + 5, SIZE_MAX};
   struct asked it = asked_of("x86_64-linux"), other = it;

@@ -506,6 +506,10 @@ static void try_read(const char *text, size_t size, uint32_t parsed, const struc
     uint32_t suggested = lexicon_name_suggestion(dialect, text, size, meant, sizeof meant, &length);
     CHECK(suggested == LEXICON_OK ? status == LEXICON_UNKNOWN_NAME && length == strlen(meant)
         : suggested == LEXICON_NO_SUGGESTION && length == 77);
+    size_t noted = 77;
+    const uint32_t note = lexicon_note(dialect, text, size, NULL, 0, &noted);
+    CHECK(note == LEXICON_NO_SUGGESTION ? noted == 77 : note == LEXICON_TOO_SMALL && noted > 0
+        && status == (dialect ? LEXICON_UNKNOWN_NAME : status) && (dialect || parsed != LEXICON_OK));
     if (suggested == LEXICON_OK) {
       struct lexicon_triple of;
       CHECK(lexicon_read(dialect, meant, length, &of, NULL) == LEXICON_OK);

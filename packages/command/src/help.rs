@@ -6,7 +6,7 @@ use crate::refusal::{Names, Refusal};
 use clap::ArgMatches;
 use std::collections::HashMap;
 use target_lexicon::TripleRef;
-use target_names::{meanings, readers, vendor_suggestion, Dialect, Evidence, Meant, Mistake, NameOf, Sense, Suggest as _};
+use target_names::{readers, vendor_suggestion, Dialect, Meant, Mistake, NameOf, Note, Sense, Suggest as _};
 
 #[derive(Clone)]
 pub struct Help {
@@ -47,9 +47,9 @@ impl Helper {
             return help.clone();
         }
         let Help { suggestion, note } = help_of_names(refusal, target.text);
-        let plain = ascii_form(target.text.trim());
-        let plain = plain.map(|it| format!("with the dashes and quotes of ASCII it is `{it}`"));
-        let note = plain.or(note).or_else(|| if refusal.has_reason() { None } else { self.note(target) });
+        let note = note.or_else(|| if refusal.has_reason() { None } else { self.note(target) });
+        let is_refused = suggestion.is_none() && refusal.is_of_triple(target.text);
+        let note = note.or_else(|| if is_refused { shown(Note::of(target.text.trim(), None)) } else { None });
         let note = self.triple_note(target.text, refusal, note);
         let help = Help { suggestion, note };
         if self.remembered.len() < REMEMBERED
@@ -98,13 +98,6 @@ impl Helper {
     }
 }
 
-/// A name with the dashes that a word processor made of `-`, and without its quotes, if some tool has that.
-fn ascii_form(text: &str) -> Option<String> {
-    let plain = text.replace(|it| ('\u{2010}'..='\u{2015}').contains(&it) || it == '\u{2212}', "-");
-    let plain = plain.trim_matches(|it| ('\u{2018}'..='\u{201f}').contains(&it));
-    (plain != text && meanings(plain).next().is_some()).then(|| plain.into())
-}
-
 /// Whether a string ends as the name of a file.
 fn has_extension(text: &str) -> bool {
     let (_, end) = text.rsplit_once('.').unwrap_or_default();
@@ -126,36 +119,24 @@ pub fn readers_note(command: &str, text: &str) -> Option<String> {
     (!options.is_empty()).then(|| format!("it is a name of another tool: use {}", options.join(" or ")))
 }
 
-/// What the words of a name say, if they say something of a target.
-fn said(evidence: &Evidence<'_>) -> Option<String> {
-    (!evidence.is_empty()).then(|| evidence.to_string())
-}
-
 /// What is suggested for a part of this target, and what is wrong with a name that a dialect doesn't have.
 fn help_of_names(refusal: &Refusal<'_>, target: &str) -> Help {
     let (suggestion, note) = match &refusal.names {
         Names::OfParts(refusal) => (shown(refusal.suggestion_in(target)), None),
         Names::OfVendors(triple) => (shown(vendor_suggestion(triple)), None),
         Names::OfAll(name, near) => {
-            let is_digit = |it: char| it.is_ascii_digit();
             let meant = Meant::by(name).or(*near).map(|it| it.to_string());
             let has = |it: &&Dialect| meant.as_deref() == it.suggestion(name);
             let mistake = Dialect::ALL.iter().find(has).filter(|_| meant.is_some()).and_then(|it| it.mistake(name));
             let mistake = mistake.filter(|it| !matches!(it, Mistake::NoTriple(_)));
-            match meant {
-                Some(meant) => (Some(meant), shown(mistake)),
-                // A number that nobody knows may be of the machine, as in `x86_46`: then it isn't the one that is said.
-                None => (None, said(&Evidence::of(name)).filter(|it| !it.trim_end_matches('`').ends_with(is_digit))),
-            }
+            let note = shown(mistake).or_else(|| if meant.is_some() { None } else { shown(Note::of(name, None)) });
+            (meant, note)
         }
         Names::OfDialect(dialect, name) => {
             let suggestion = dialect.suggestion(name);
-            let note = match dialect.mistake(name) {
-                None | Some(Mistake::NoTriple(_)) if suggestion.is_some() => None,
-                None => said(&Evidence::of(name)),
-                mistake => shown(mistake),
-            };
-            (shown(suggestion), note)
+            let is_file = suggestion.is_none() && has_extension(name);
+            let note = Note::of(name, Some(*dialect));
+            (shown(suggestion), shown(note.filter(|it| !is_file || !matches!(it, Note::Mistake(Mistake::Path)))))
         }
         Names::No => (None, None),
     };

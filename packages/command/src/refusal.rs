@@ -108,6 +108,11 @@ impl Refusal<'_> {
         self.reason.is_some()
     }
 
+    /// Whether it is of a whole target, which is no triple.
+    pub fn is_of_triple(&self, text: &str) -> bool {
+        matches!(self.names, Names::OfParts(_)) && self.part.text == text
+    }
+
     /// Whether it is a name that a dialect doesn't have.
     pub fn is_unknown_name(&self) -> bool {
         matches!(self.names, Names::OfDialect(..))

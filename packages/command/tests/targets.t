@@ -31,10 +31,12 @@ A refused target is shown, with its place if it is a line. A byte order mark and
   !   ^^^
   [1]
 
-Dashes and quotes of a word processor have their form in ASCII:
+Dashes and quotes of a word processor have their form in ASCII, and what words say of a name that nobody has is noted:
 
   $ for call in settle what; do target-lexicon $call '“x86_64‑linux–gnu”' | tail -n 1; done | uniq
   !   note: with the dashes and quotes of ASCII it is `x86_64-linux-gnu`
+  $ for it in 'settle linux/amr64' 'check --from rust linux/amr64'; do target-lexicon $it | tail -n 1; done | uniq
+  !   note: it names a system, and no single machine known here
 
 What was answered stays if another file isn't there:
 
@@ -163,10 +165,12 @@ An unknown environment after a machine and a system is wrong, and so is what is 
   > check-wine64: mipsn32el-linux-user x
   > targets: mipsn32el-linux-user
   > platforms: [linux/arn64, linux-arn64]
+  > arch: arn64
   > FROM mips64le/debian:sid, "toolchains/aarch64-linux-android-clang3.8" of //cycle:rock in [linux-ppc64el]
   > "archs": [armv7em, armv4b] and android-armeabi; arch=$arch64; magic_arch='\x7f\x46'; s/arch_64/x: "a/arch_64/x"
   > HOSTARCH=`uname -m | sed -e s/sparc$/sparc32/`
-  > device("avr-watchdog", riscv32e_unknown_none_elf)
+  > device("avr-watchdog", riscv32e_unknown_none_elf), arm64-windows-abi-conventions, x86_64-unknown-haiku-g++
+  > target = x23; cpu=arm9
   > END
   $ target-lexicon check words.yml | grep -v '^!   '
   ! words.yml:1:28: error: unrecognized environment `gnueabhif`
@@ -184,11 +188,13 @@ An unknown environment after a machine and a system is wrong, and so is what is 
   ! more.yml:6:23: error: no tool has the name `Lnux`
   ! more.yml:9:13: error: no tool has the name `linux/arn64`
   ! more.yml:9:26: error: no tool has the name `linux-arn64`
-  ! note: 4 words that may be targets aren't understood: --strict shows each
-  ! 7 of 11 targets refused
-  $ target-lexicon check more.yml 2>&1 | grep -o 'linux.arm64'
-  linux/arm64
-  linux-arm64
+  ! more.yml:10:7: error: no tool has the name `arn64`
+  ! note: 3 words that may be targets aren't understood: --strict shows each
+  ! 8 of 11 targets refused
+  $ target-lexicon check more.yml 2>&1 | grep -o 'mean `.*arm64`'
+  mean `linux/arm64`
+  mean `linux-arm64`
+  mean `arm64`
 
 Of a folder the files are read, except links and what tools make. A list is what has targets in half of its lines:
 

@@ -103,7 +103,9 @@ export class ParseError extends Error {
    * isn't printable ASCII is escaped. The `message` is this, and which call reads a name of another tool.
    */
   readonly report: string;
-  /** All of the above except the report, and `name` and `message`: what `JSON.stringify` writes. */
+  /** What else is known of the string, such as by which call it is read: what follows the report in the message. */
+  readonly note: string | null;
+  /** All of the above except the report and the note, and `name` and `message`: what `JSON.stringify` writes. */
   toJSON(): Record<string, string | number | boolean | null>;
 }
 

@@ -324,8 +324,10 @@ export class ParseError extends Error {
   }
 }
 
-/** By which calls a refused string is read, or why no triple means it; null if nobody has it as a name. */
-function noteOf(text) {
+/** What the module knows of a refused string; by which calls it is read, or why no triple means it; or null. */
+function noteOf(it, text, given, dialect) {
+  const note = it.written("note", given[1], dialect, ...given);
+  if (note || dialect) return note;
   const readers = meaningsBy("readers", text), without = readers.find((it) => it.triple === null);
   if (without) return `it is a name of ${without.dialect} without a triple: ${without.reason}`;
   const calls = readers.map(({ dialect }) => dialect ? `Triple.read(text, "${dialect}")` : "Triple.read(text)");
@@ -352,10 +354,11 @@ function errorAt(it, status, text, given, dialect = 0) {
   if (reason !== null) report += ` ${reason}`;
   else if (status === UNKNOWN_NAME && suggestion !== null) report += ` did you mean \`${suggestion}\`?`;
   // To ask each tool takes twice the time of all else, and a suggestion after a known machine says enough.
-  const note = dialect || status > REFUSED || (start > 0 && suggestion !== null) ? null : noteOf(text);
+  const isMeant = dialect === 0 && start > 0 && suggestion !== null,
+    note = (status <= REFUSED || status === UNKNOWN_NAME) && !isMeant ? noteOf(it, text, given, dialect) : null;
   return new ParseError(note === null ? report : `${report}\n  note: ${note}`, { field: FIELDS[status - 1] ?? null,
     text, part: text.slice(start, end), start, end, suggestion, reason, needsLibc: status === NEEDS_C_LIBRARY,
-    report });
+    report, note });
 }
 
 /** Where the value of a field comes from. */

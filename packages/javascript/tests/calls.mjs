@@ -197,9 +197,9 @@ const tests = {
     const askedBy = (call) => (asked.length = 0, call(), asked.join(" "));
     assert.equal(askedBy(() => Triple.tryParse("x86_64-pc-linx")), "parse");
     assert.equal(askedBy(() => refusal("x86_64-pc-linx")), "parse suggestion error_text");
-    assert.equal(askedBy(() => refusal("aarch64--netbsd")), "parse suggestion error_text readers");
+    assert.equal(askedBy(() => refusal("aarch64--netbsd")), "parse suggestion error_text note readers");
     assert.equal(askedBy(() => refusal("linux/amd46", (it) => Triple.read(it, "go"))),
-      "read name_suggestion error_text");
+      "read name_suggestion error_text note");
     assert.equal(askedBy(() => settleAll(["avr", "x", "arm64"])), "settle_lines");
     isCutOff = true;
     assert.throws(() => Triple.parse("avr"), { message: "cut off" });

@@ -29,7 +29,7 @@ const ofCalls: Same<Answers<typeof calls>, { changes: Change[]; check: Finding[]
 const ofErrors: Same<Omit<ParseError, keyof Error>, {
   readonly field: Field | null; readonly text: string; readonly part: string; readonly start: number;
   readonly end: number; readonly suggestion: string | null; readonly reason: string | null;
-  readonly needsLibc: boolean; readonly report: string;
+  readonly needsLibc: boolean; readonly report: string; readonly note: string | null;
   toJSON: () => Record<string, string | number | boolean | null> }> = true;
 const ofFacts: Same<Pick<Facts, "endianness" | "pointerWidth" | "armVersion" | "isUnix">, {
   endianness: "little" | "big" | null; pointerWidth: 16 | 32 | 64 | null; armVersion: number | null; isUnix: boolean;

@@ -84,7 +84,7 @@ impl Dialect {
     pub fn mistake(self, name: &str) -> Option<Mistake<'_>> {
         let has_path = || {
             let has_slashes = self.has_slashes() || name.starts_with('@');
-            self.name_inside(name).is_some() || !has_slashes && name.contains(['/', '\\'])
+            self.name_inside(name).is_some() || !has_slashes && name.contains(['/', '\\']) && Evidence::of(name).is_empty()
         };
         if let Some(known) = self.name_in_other_letters(name) {
             Some(Mistake::Capitals(known))

@@ -48,6 +48,7 @@ mod multiarch;
 mod name;
 mod named;
 mod near;
+mod note;
 #[cfg(feature = "alloc")]
 mod parse_name_error;
 mod platform;
@@ -85,6 +86,7 @@ pub use suggestions::{
 };
 pub use table::{ArmProfile, CLibrary, ChosenLibc, Dialect, FloatAbi, Signedness, WriteError};
 pub use target_info::TargetInfo;
+pub use note::Note;
 pub use text::{targets_in, words_in, TargetsIn, Word, WordIs};
 pub use translation::TranslateError;
 pub use verdict::Verdict;

@@ -229,8 +229,11 @@ impl<'a> TargetsIn<'a> {
             if is_end(before) || after.starts_with(PATTERN) && word.ends_with(['-', '.', '_']) {
                 continue;
             }
-            let is_value = self.value == Value::Target && !is_key;
-            let is_part = self.value != Value::None && !is_key && (is_value || is_alone(before, word, after));
+            // In C a word before a semicolon is a variable: `target = x23;`.
+            let is_variable = self.is_check && before.ends_with(' ') && after.starts_with(';');
+            let has_value = self.value != Value::None && !is_key && !is_variable;
+            let is_value = has_value && self.value == Value::Target;
+            let is_part = has_value && (is_value || is_alone(before, word, after));
             let hash = word.bytes().fold(0_usize, |hash, it| hash.wrapping_mul(31).wrapping_add(it.into()));
             let passed = &mut self.passed[hash % PASSED];
             if !is_part && (!word.contains(['-', '/', '_']) || *passed == word) {
@@ -263,7 +266,9 @@ impl<'a> TargetsIn<'a> {
                     return misspelled.or(Some((name, false)));
                 }
                 let is_part = is_part && is_alone(before, word, after);
-                let found = whole.clone().find_map(|it| Some((it, clarity(it, is_value, is_part)?)));
+                // What ends with `+` is a compiler, as in `x86_64-unknown-haiku-g++`.
+                let mut found = whole.clone().filter(|it| !(it.len() < word.len() && word.ends_with('+')));
+                let found = found.find_map(|it| Some((it, clarity(it, is_value, is_part)?)));
                 let is_clear = matches!(found, Some((_, false)));
                 if let Some(found) = found.filter(|_| is_clear).or_else(near).or(found) {
                     return Some(found);
@@ -526,7 +531,7 @@ fn is_of_unknown_environment(word: &str, is_value: bool) -> bool {
         && said(part) != Some("other-abi")
         && (is_value && is_full
             || names.any(|name| match edits_between(part.as_bytes(), name) {
-                Some(edits) => part.len() > 3 || is_full && edits == 1 && said(part).is_none(),
+                Some(edits) => part.len() > 3 || is_full && part.len() > 1 && edits == 1 && said(part).is_none(),
                 None => false,
             }))
 }

@@ -238,8 +238,12 @@ class Refusals(Refused):
                          r"\n  note: it is a name of go without a triple: a module for Go's own JavaScript; .*$")
         self.assertRegex(str(self.refusal(Triple, "macosx_11_0_universal2")),
                          r"\n  note: it is a name of python without a triple: several machines$")
-        for error in self.refusal(Triple, "linux/amd46"), self.refusal(Triple.read, "linux/amd64", "debian"):
-            self.assertNotIn("note:", str(error))
+        self.assertNotIn("note:", str(self.refusal(Triple, "linux/amd46")))
+        for text, dialect, said in (("linux/arm", "debian", "it is a name of go and oci"), ("x\ud800", "go", None),
+                                    ("linux/amr64", None, "it names a system, and no single machine known here"),
+                                    ("avr\u2013none", None, "with the dashes and quotes of ASCII it is `avr-none`")):
+            error = str(self.refusal(Triple.read, text, dialect))
+            self.assertEqual(error.partition("\n  note: ")[2], said or "")
 
     def test_errors_are_values(self):
         errors = {ParseError("x86_64-foo-bar", "operating_system", 11):

@@ -115,11 +115,12 @@ class ParseError(ValueError):
                 + (f"\n  note: {note}" if note else ""))
 
     def _note(self) -> Optional[str]:
-        """That other tools have the string as a name, and by which calls it is read, or why no triple means it. None if
-        nobody has it."""
-        if self.dialect is not None:
-            return None
+        """What the library knows of the string; or else that other tools have it as a name, and by which calls it is
+        read, or why no triple means it. None if nobody has it."""
         utf8 = self.text.encode(errors="replace")
+        note = _library.note(self._number, utf8, len(utf8))
+        if note or self.dialect is not None:
+            return note
         dialects, calls = (None, *Dialect), []
         for it in _library.readers(ctypes.create_string_buffer(utf8, len(utf8))):
             dialect = dialects[it.dialect]

@@ -257,6 +257,7 @@ _error_text = _writing("lexicon_error_text", c_char_p, c_size_t, _ERROR)
 _suggestion = _writing("lexicon_suggestion", c_char_p, c_size_t, _ERROR)
 vendor_suggestion: Callable[[TripleStruct], Optional[str]] = _writing("lexicon_vendor_suggestion", _TRIPLE)
 _name_suggestion = _writing("lexicon_name_suggestion", c_uint32, c_char_p, c_size_t)
+note: Callable[[int, bytes, int], Optional[str]] = _writing("lexicon_note", c_uint32, c_char_p, c_size_t)
 # The name of the value of a field with this number, or None if there is none.
 name: Callable[[int, int], Optional[bytes]] = _declare("lexicon_name", c_uint32, c_uint32, result=c_char_p)
 
