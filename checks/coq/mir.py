@@ -96,9 +96,8 @@ class Crate:
     def all(self):
         """All functions but closures and constructors; a trait's own ones for each type that has the trait."""
         for it in self.functions:
-            _, owner, name = it.key
-            made = owner in self.types.declared and any(name == part[0] for part in self.types.declared[owner])
-            if "{closure#" not in it.path and not made and it.path not in self.types.declared and not any(
+            is_constructor = {it.path, it.path.rpartition("::")[0]} & {*self.types.declared}
+            if not it.path.endswith("}") and not is_constructor and not any(
                     re.search(r"\bSelf\b", type) for _, type in it.parameters):
                 yield it
         for it in self.impls:
