@@ -215,7 +215,7 @@ function refusedRow(target) {
     if (suggestion) inside.push(element("p", {}, ...question(suggestion, text, error)));
     for (const { name, tools } of nearest)
       inside.push(element("p", {}, "Did you mean ", offer(name, text, name), ` of ${toolsOf(tools)}?`));
-    if (error.note && !suggestion && !nearest.length) inside.push(small("Note: ", error.note));
+    if (error.note && !suggestion && !nearest.length) inside.push(element("p", {}, `Note: ${error.note}`));
     inside.push(...soFar(fields));
   }
   const answer = element("td", { role: "cell", class: "refused", colspan: 7, "aria-colspan": 7 }, ...inside);

@@ -214,6 +214,9 @@ def refuses_and_suggests(page):
     press(page, ".suspicious .offer")
     page.until(f"{STATUS} === '5 targets: 2 parsed, 3 refused.'")
     same(page.run(FOCUSED), "x86_64-linux-gnu")
+    typed(page, "linux/amr64")
+    same(page.run(CELLS)[0][1], "Unrecognized architecture: linux/amr64"
+         "Note: it names a system, and no single machine known here")
 
 
 def mistakes_come_first(page):
