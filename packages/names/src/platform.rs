@@ -32,7 +32,9 @@ pub(super) fn row_of_platform(rows: &'static [Row], name: &str) -> Option<&'stat
     let (machine, variant) = rest.split_at(rest.find('/').unwrap_or(rest.len()));
     let is_darwin = is(system, "macos");
     let system = if is_darwin { "darwin" } else { system };
-    let other = MACHINES.iter().find(|it| is(it.0, machine));
+    // containerd drops any other one after `i386`, too.
+    let is_known = VARIANTS.iter().any(|it| is(it.1, variant) || is(it.2, variant));
+    let other = MACHINES.iter().find(|it| is(it.0, machine) && (is_known || it.2.is_none()));
     let (machine, variant) = other.map_or((machine, variant), |it| (it.1, it.2.unwrap_or(variant)));
     let mut variants = VARIANTS.iter();
     let other = variants.find(|it| is(it.0, machine) && is(it.1, variant));

@@ -237,7 +237,8 @@ x86_64-pc-windows-msvc=rust tool-x86_64-pc-windows-msvc.exe
     go tool-amd64.zip, debian raspbian-x_1_armhf.deb, gnu gcc, gnu arm-gcc, gnu aarch64-linux-gnu-foo, \
     rust x86_64-unknown-linux-musl.2.17, rust x86_64-unknown-linux-gnu.2.x, zig x86_64-linux.foo-gnu, \
     zig x86_64-linux.5.10...foo-gnu, python manylinux_2_17_x86_64.musllinux_1_2_x86_64, oci windows(10.0.*)/amd64, \
-    oci linux(10.0)/amd64, oci windows(x)/amd64, debian hello-musl_2.10_amd64.deb
+    oci linux(10.0)/amd64, oci windows(x)/amd64, go linux-i386-x86_64, oci linux/armhf/foo, \
+    debian hello-musl_2.10_amd64.deb
 armv7-unknown-linux-gnueabihf=debian hello_1_armhf.deb
 i686-unknown-linux-gnu=debian libc6:i386
 !several machines=go tool_darwin_all.tar.gz
