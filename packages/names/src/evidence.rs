@@ -109,6 +109,8 @@ pub struct Evidence<'a> {
     form: Said<&'static str>,
     /// The first word that isn't understood, after the first that says a machine or a system.
     pub(crate) unknown: Option<&'a str>,
+    /// A machine and `elf` stand there without a system: it is none.
+    is_bare: bool,
     /// Before that, a word isn't understood, as in the name of a program.
     pub(crate) has_title: bool,
     /// Before that, and not just before it, a word says a C library, which may be another target's: `sdk_musl.Linux-x86_64`.
@@ -173,13 +175,15 @@ impl<'a> Evidence<'a> {
         let Some(said) = said else {
             // A number after a machine may be a part of it: `x86_46`, `arm-7`.
             let after = self.text[word.end..].strip_prefix('.').unwrap_or("");
+            let goes_on = after.starts_with(|it: char| it.is_ascii_digit());
             let is_joined = joint == Some(b'_') && text.len() < 4;
             let is_part = before == Some(Kind::Machine)
                 && (is_joined || self.is_any_arm && text.len() < 3)
-                && !after.starts_with(|it: char| it.is_ascii_digit());
+                && !goes_on;
             let is_part = is_part || before == Some(Kind::Gnu) && text != "2";
             // What a platform has after its machine is a level.
-            let is_level = before == Some(Kind::Machine) && joint == Some(b'/') && text.starts_with('v');
+            let is_level =
+                before == Some(Kind::Machine) && joint == Some(b'/') && (text.starts_with('v') || !goes_on);
             let is_version = is_version(text) && !is_part && !is_level;
             if has_begun && !is_version && self.unknown.is_none() {
                 self.unknown = Some(text);
@@ -199,7 +203,9 @@ impl<'a> Evidence<'a> {
         let may_be_title =
             ["gnu", "soft", "hard", "32", "64", "sim", "newlib", "neon", "ibm", "sun", "nvidia"].contains(&said);
         // What an ABI follows is a system, and no part of a name without a vendor: `arm-none-eabi-10.3-mac`.
-        if self.system == Said::One("none") && before.is_none() && says(Kind::System) {
+        self.is_bare |= said == "elf" && self.has_machine() && self.system == Said::Unsaid;
+        let is_none = self.is_bare || self.system == Said::One("none") && before.is_none();
+        if is_none && says(Kind::System) && said != "none" {
             self.system = Said::Contradicted;
         }
         let is_next = self.library == Said::Unsaid || matches!(before, Some(Kind::Gnu | Kind::Library));
@@ -267,7 +273,7 @@ impl<'a> Evidence<'a> {
 
     fn say(&mut self, what: &'static str) {
         match what {
-            "nothing" | "kit" | "version" => {}
+            "nothing" | "elf" | "kit" | "version" => {}
             "several" => self.machine = Said::Contradicted,
             "arm32|64" => self.is_any_arm = true,
             "other-machine" => self.is_other_machine = true,
@@ -281,7 +287,7 @@ impl<'a> Evidence<'a> {
             }
             "other-abi" => self.library.add(OTHER),
             "gnu" | "musl" | "uclibc" | "msvc" | "gnullvm" | "newlib" => self.library.add(what),
-            "android" | "ohos" | "macabi" | "sim" | "n64" | "spe" => self.form.add(what),
+            "android" | "ohos" | "macabi" | "sim" | "n32" | "n64" | "spe" => self.form.add(what),
             "ibm" | "sun" | "nvidia" | "uwp" => self.vendor.add(what),
             "other-system" => self.add_system(OTHER),
             _ => match what.parse::<Architecture>() {
@@ -363,7 +369,7 @@ impl<'a> Evidence<'a> {
         let is_its_level = level.is_empty() || !is_at_most((machine, level), (machine, ""));
         let is_whole = self.unknown.is_none() && !self.is_other_machine && !self.has_library_apart && is_its_level;
         let operating_system: OperatingSystem = system.parse().ok()?;
-        let usual = VendorRef::Known(usual_vendor(operating_system));
+        let usual = VendorRef::Known(usual_vendor(machine, operating_system));
         let vendor = self.vendor.one().and_then(|it| VendorRef::from_str(it).ok());
         let of = |environment| {
             let mut triple = TripleRef {
@@ -656,6 +662,11 @@ pub(crate) fn said(word: &str) -> Option<&'static str> {
     listed(word).or_else(|| machine_named(word)).or_else(|| system_named(word)).or_else(versioned)
 }
 
+/// Whether a word is understood, and says nothing of a target.
+pub(crate) fn says_nothing(word: &str) -> bool {
+    said_in(word, &(0..word.len())) == Some("nothing")
+}
+
 /// The machine of a text that is only a word for one, and not an Arm of 32 bits.
 pub(crate) fn only_machine(text: &str) -> Option<Architecture> {
     let mut lower = Buffer::<LONGEST>::new();
@@ -707,11 +718,18 @@ fn said_by_pair(text: &str, first: &Word, second: &Word) -> Option<&'static str>
     })
 }
 
-/// The byte order that a misspelled word for a machine says: a known one, and letters for the order.
+/// The byte order that a misspelled word for a machine says: a known one, and letters for the order at its end or
+/// within it, as in `mipsle64`.
 pub(crate) fn order_of(word: &str) -> Option<Endianness> {
-    let of = |ends: [&str; 2]| ends.into_iter().find_map(|it| machine_named(word.strip_suffix(it)?));
-    let little = of(["el", "le"]).map(|_| Endianness::Little);
-    little.or_else(|| of(["eb", "be"]).map(|_| Endianness::Big))
+    let is_machine = |letters: &str, at: usize| {
+        let mut rest = Buffer::<LONGEST>::new();
+        let is_written = write!(rest, "{}{}", &word[..at], &word[at + letters.len()..]);
+        is_written.is_ok() && machine_named(rest.as_str()).is_some()
+    };
+    let has = |letters: &str| word.match_indices(letters).any(|(at, _)| is_machine(letters, at));
+    let of = |letters: [&str; 2]| letters.into_iter().any(has);
+    let little = of(["el", "le"]).then_some(Endianness::Little);
+    little.or_else(|| of(["eb", "be"]).then_some(Endianness::Big))
 }
 
 fn is_number(word: &str) -> bool {

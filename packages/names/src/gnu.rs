@@ -154,7 +154,7 @@ fn complete(triple: &TripleRef<'_>, parts: &Parts<'_>) -> Result<TripleRef<'stat
     };
     Ok(TripleRef {
         architecture: triple.architecture,
-        vendor: VendorRef::Known(usual_vendor(operating_system)),
+        vendor: VendorRef::Known(usual_vendor(triple.architecture, operating_system)),
         operating_system,
         environment,
         binary_format: match (operating_system, triple.binary_format) {

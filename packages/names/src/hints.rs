@@ -4,10 +4,10 @@
 //! the nearest names of all tools are of its machine and byte order: otherwise another machine may have been meant, and there is none.
 use crate::buffer::Buffer;
 use crate::dialect::Row;
-use crate::evidence::only_machine;
-use crate::levels::level_of;
+use crate::evidence::{only_machine, says_nothing};
+use crate::levels::{is_at_most, level_of};
 use crate::suggestions::{
-    edits_between, fit_alone, machine_of, meant, vendor_suggestion, visible, Form, Machine, Place, Suggest as _,
+    edits_between, fit_alone, is_near_other, machine_of, meant, vendor_suggestion, visible, Form, Machine, Place, Suggest as _,
     Suggestion,
 };
 use crate::table::SYSTEMS;
@@ -16,7 +16,7 @@ use crate::{changes, read, Dialect, Evidence, FloatAbi, NameError, Said};
 use core::cell::Cell;
 use core::fmt::{self, Write as _};
 use core::ops::Range;
-use target_lexicon::{PointerWidth, Refusal, Source, TextPart, TripleRef};
+use target_lexicon::{Architecture, PointerWidth, Refusal, Source, TextPart, TripleRef, VendorRef};
 
 /// What is wrong with a name that a dialect doesn't have. `Display` says it.
 #[derive(Clone, Copy, Debug, PartialEq, Eq)]
@@ -169,17 +169,23 @@ impl Dialect {
         let machine = only_machine(name)?;
         let is_same = |row: &&Row| {
             let triple = TripleRef::from_str(row.1);
-            triple.map_or(false, |it| it.architecture == machine) && only_machine(row.0) == Some(machine)
+            // What the name says may be the name of a family: RPM's `i386`.
+            let may_be = |it: Architecture| it == machine || !is_at_most((machine, ""), (it, ""));
+            triple.map_or(false, |it| may_be(it.architecture)) && only_machine(row.0) == Some(machine)
         };
-        self.rows_read().find(is_same).map(|row| row.0)
+        let edits = |row: &&Row| edits_between(name.as_bytes(), row.0).unwrap_or(usize::MAX);
+        self.rows_read().filter(is_same).min_by_key(edits).map(|row| row.0)
     }
 
-    /// The name that is written for a triple, if it says as much of how floating-point arguments are passed, or no name of the dialect does.
+    /// The name that is written for a triple, if it says as much of how floating-point arguments are passed, or no name
+    /// of the dialect does, and if none that is only read says more: Python's `linux_x86_64` isn't `manylinux2014_x86_64`.
     fn name_with_floats_of(self, triple: &TripleRef<'_>) -> Option<&'static str> {
         let found = self.row_written(triple)?;
-        let floats = FloatAbi::of(&self.read(found).ok()?);
+        let named = self.read(found).ok()?;
         let has_none = self.has_slashes() || self == Dialect::Nix;
-        (has_none || floats == FloatAbi::of(triple)).then_some(found)
+        let is_whole = named.environment == triple.environment
+            || !self.rows().iter().any(|row| TripleRef::from_str(row.1) == Ok(*triple));
+        (is_whole && (has_none || FloatAbi::of(&named) == FloatAbi::of(triple))).then_some(found)
     }
 }
 
@@ -214,19 +220,27 @@ impl<'a> Hints<'a> {
             return evidence.allows(&sense).then_some(known);
         }
         let spelled = read(name).ok().filter(|it| !it.vendor.is_custom() && !has_number_of_abi(name));
-        let said = evidence.sense().filter(|it| it.level.is_empty() && !evidence.has_title);
+        // What says nothing may be a misspelled ABI: `aarch64-apple-ios-iso`.
+        let is_vendor = |it: &str| VendorRef::from_str(it).map_or(false, |it| !it.is_custom());
+        let is_left_out = |it: &str| says_nothing(it) && !is_vendor(it);
+        let has_title = evidence.has_title || name.split(SIGNS).any(is_left_out);
+        let said = evidence.sense().filter(|it| it.level.is_empty() && !has_title);
         let named = spelled.or(said.map(|it| it.triple));
         let known = named.and_then(|it| dialect.name_with_floats_of(&it));
         let known = known.or_else(|| dialect.name_of_machine(name));
         let found = known.or_else(|| self.nearest(dialect))?;
         let machine = machine_of(dialect.read(found).ok()?.architecture);
-        self.machines_near().allows(machine).then_some(found)
+        // Of `aremb` the byte order of `armeb` is nearer than that of `arm`.
+        let is_other = evidence.machine() == Said::Unsaid && name.split(SIGNS).any(|it| is_near_other(it, machine));
+        (!is_other && self.machines_near().allows(machine)).then_some(found)
     }
 
     /// The nearest name that contradicts nothing which the words say.
     fn nearest(&self, dialect: Dialect) -> Option<&'static str> {
         let name = self.name;
         let allows = |row: &Row| dialect.sense(row.0).map_or(false, |it| self.evidence.allows(&it));
+        let is_one_edit = |other: &str| edits_between(name.as_bytes(), other) == Some(1);
+        let keeps_numbers = |other: &str| numbers_apart(name) <= numbers_apart(other) || is_one_edit(other);
         let rows = dialect.rows_of(lengths_near(name));
         meant(
             name.as_bytes(),
@@ -234,8 +248,11 @@ impl<'a> Hints<'a> {
             rows.map(|row| (row.0, row)),
             core::iter::empty(),
             said_of_machine,
-            |row| dialect.sense(row.0).ok().map(|it| level_of((it.triple.architecture, it.level))),
-            |row| allows(row) && keeps_systems(name, row.0),
+            |row| {
+                let sense = dialect.sense(row.0).ok();
+                sense.map(|it| (level_of((it.triple.architecture, it.level)), it.triple.operating_system))
+            },
+            |row| allows(row) && keeps_systems(name, row.0) && keeps_numbers(row.0),
         )
     }
 
@@ -268,6 +285,12 @@ impl<'a> Hints<'a> {
         self.machines_near.set(Some(found));
         found
     }
+}
+
+/// How many signs of a name are between two numbers.
+fn numbers_apart(name: &str) -> usize {
+    let is_between = |it: &&[u8]| it[0].is_ascii_digit() && !it[1].is_ascii_alphanumeric() && it[2].is_ascii_digit();
+    name.as_bytes().windows(3).filter(is_between).count()
 }
 
 /// The signs between words.

@@ -72,9 +72,10 @@ impl Rules {
         use OperatingSystem::{MacOSX, IOS};
         let (machine, system) = (self.machine, triple.operating_system);
         let environment = self.abi.environment(system, triple.environment);
+        let architecture = machine.architecture(system, environment, triple.architecture);
         TripleRef {
-            architecture: machine.architecture(system, environment, triple.architecture),
-            vendor: VendorRef::Known(usual_vendor(system)),
+            architecture,
+            vendor: VendorRef::Known(usual_vendor(architecture, system)),
             operating_system: match system {
                 MacOSX(version) if self.versions => MacOSX(two_numbers_of(version)),
                 IOS(version) if self.versions => IOS(two_numbers_of(version)),
@@ -210,10 +211,12 @@ pub(super) const fn version(major: u16, minor: u8) -> DeploymentTarget {
     DeploymentTarget { major, minor, patch: 0 }
 }
 
-/// The vendor that triples on a system usually have.
-pub(super) fn usual_vendor(system: OperatingSystem) -> KnownVendor {
+/// The vendor that triples of a machine on a system usually have.
+pub(super) fn usual_vendor(machine: Architecture, system: OperatingSystem) -> KnownVendor {
     use OperatingSystem::{Aix, Cygwin, Solaris, Windows};
+    let is_x86 = matches!(machine, Architecture::X86_32(_) | Architecture::X86_64 | Architecture::X86_64h);
     match system {
+        Solaris if !is_x86 => KnownVendor::Sun,
         _ if system.is_like_darwin() => KnownVendor::Apple,
         Windows | Cygwin | Solaris => KnownVendor::Pc,
         Aix => KnownVendor::Ibm,
