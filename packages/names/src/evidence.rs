@@ -177,13 +177,10 @@ impl<'a> Evidence<'a> {
             let after = self.text[word.end..].strip_prefix('.').unwrap_or("");
             let goes_on = after.starts_with(|it: char| it.is_ascii_digit());
             let is_joined = joint == Some(b'_') && text.len() < 4;
-            let is_part = before == Some(Kind::Machine)
-                && (is_joined || self.is_any_arm && text.len() < 3)
-                && !goes_on;
+            let is_part = before == Some(Kind::Machine) && (is_joined || self.is_any_arm && text.len() < 3) && !goes_on;
             let is_part = is_part || before == Some(Kind::Gnu) && text != "2";
             // What a platform has after its machine is a level.
-            let is_level =
-                before == Some(Kind::Machine) && joint == Some(b'/') && (text.starts_with('v') || !goes_on);
+            let is_level = before == Some(Kind::Machine) && joint == Some(b'/') && (text.starts_with('v') || !goes_on);
             let is_version = is_version(text) && !is_part && !is_level;
             if has_begun && !is_version && self.unknown.is_none() {
                 self.unknown = Some(text);

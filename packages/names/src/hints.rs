@@ -7,8 +7,8 @@ use crate::dialect::Row;
 use crate::evidence::{only_machine, says_nothing};
 use crate::levels::{is_at_most, level_of};
 use crate::suggestions::{
-    edits_between, fit_alone, is_near_other, machine_of, meant, vendor_suggestion, visible, Form, Machine, Place, Suggest as _,
-    Suggestion,
+    edits_between, fit_alone, is_near_other, machine_of, meant, vendor_suggestion, visible, Form, Machine, Place,
+    Suggest as _, Suggestion,
 };
 use crate::table::SYSTEMS;
 use crate::text::is_whole;
@@ -84,7 +84,8 @@ impl Dialect {
     pub fn mistake(self, name: &str) -> Option<Mistake<'_>> {
         let has_path = || {
             let has_slashes = self.has_slashes() || name.starts_with('@');
-            self.name_inside(name).is_some() || !has_slashes && name.contains(['/', '\\']) && Evidence::of(name).is_empty()
+            self.name_inside(name).is_some()
+                || !has_slashes && name.contains(['/', '\\']) && Evidence::of(name).is_empty()
         };
         if let Some(known) = self.name_in_other_letters(name) {
             Some(Mistake::Capitals(known))

@@ -76,6 +76,7 @@ pub use llvm_target::LlvmTarget;
 pub use meanings::{meanings, readers, Meaning, NameOf};
 pub use multiarch::MultiarchTuple;
 pub use name::Name;
+pub use note::Note;
 #[cfg(feature = "alloc")]
 pub use parse_name_error::UnknownWord;
 pub use reading::{changes, read, Change, ChangedParts};
@@ -86,7 +87,6 @@ pub use suggestions::{
 };
 pub use table::{ArmProfile, CLibrary, ChosenLibc, Dialect, FloatAbi, Signedness, WriteError};
 pub use target_info::TargetInfo;
-pub use note::Note;
 pub use text::{targets_in, words_in, TargetsIn, Word, WordIs};
 pub use translation::TranslateError;
 pub use verdict::Verdict;

@@ -91,6 +91,7 @@ its words name aarch64-unknown-linux-gnu=linux-arm64-glibc2.28
 its words name aarch64-unknown-linux of the level v9=linux_arm64_v9.0, arm64-v9a-linux
 its words name aarch64-unknown-linux of the level v9.2=linux_arm64_v9.2
 its words say aarch64, linux; here nobody knows `v9`=linux/arm64/v9.10
+its words say aarch64, linux; here nobody knows `9`=linux/arm64/9
 its words name aarch64-unknown-linux of the level v8.2=linux_arm64_v8.2, aarch64-v8.2-linux, aarch64-v8.2a-linux
 its words name riscv64-unknown-linux of the level rva23u64=riscv64-rva23-linux, foo-1.0-linux-riscv64-rva23.tar.gz
 its words name aarch64-unknown-linux=linux_arm64_v8.0
