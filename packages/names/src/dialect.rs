@@ -1,17 +1,18 @@
 //! The dialects, whose names are read and written by the rows of [`TABLES`].
+use crate::evidence::level_spelled;
 use crate::gnu::read_as_gnu;
 use crate::levels::{is_same, machine_at, may_have_name};
 use crate::loose::last_tag;
 use crate::name::Name;
 use crate::platform::row_of_platform;
-use crate::shape::{is_another_target, unversioned, version, AbiRule, Rules};
+use crate::shape::{is_another_target, unversioned, version, AbiRule, MachineRule, Rules};
 use crate::table::refusals::SEVERAL;
 use crate::table::{Dialect, DIALECT_NAMES, ONLY_WRITTEN, TABLES, VERSION_RANGES};
 use core::cmp::Ordering;
 use core::fmt;
 use core::ops::Range;
 use core::str::FromStr;
-use target_lexicon::{DeploymentTarget, OperatingSystem, TripleRef};
+use target_lexicon::{Architecture, DeploymentTarget, OperatingSystem, TripleRef};
 
 /// How a name is used.
 #[derive(Clone, Copy, Debug, PartialEq, Eq)]
@@ -147,7 +148,7 @@ impl Dialect {
     pub(crate) fn sense(self, name: &str) -> Result<Sense<'static>, NameError> {
         let (triple, level) = match self.row_of(name) {
             Some((row, numbers)) => (meaning(row, numbers)?, self.level_of(row)),
-            None if self.table().rules.spelled => (read_as_gnu(name)?, ""),
+            None if self.table().rules.spelled => (read_as_gnu(name)?, level_spelled(name)),
             None => return Err(NameError::Unknown),
         };
         Ok(Sense { triple, level })
@@ -253,10 +254,16 @@ impl Dialect {
         };
         let stars = if numbers.is_some() { 2 } else { 0 };
         let machine = (triple.architecture, level);
+        let is_x86 = matches!(triple.architecture, Architecture::X86_32(_));
+        let has_levels = matches!(rules.machine, MachineRule::I686 | MachineRule::Rustc | MachineRule::Alpine);
+        if is_x86 && has_levels && !level.is_empty() {
+            shape.architecture = triple.architecture;
+        }
         let is_on_system = triple.operating_system != OperatingSystem::None_;
         let builds_for = |level: &str| {
             let named = (shape.architecture, level);
-            rules.spelled || may_have_name(machine, named, is_on_system)
+            // Other names of x86 say no level, and so are for all.
+            rules.spelled || is_x86 && !has_levels || may_have_name(machine, named, is_on_system)
         };
         let states_level = |level: &str| !level.is_empty() && is_same(machine, (shape.architecture, level));
         let is_wanted = |row: &Row| match version {

@@ -18,7 +18,7 @@ use crate::environment::{is_on, library_and_abi};
 use crate::levels::is_at_most;
 use crate::shape::{unversioned, usual_vendor};
 use crate::suggestions::{
-    architecture_of, edits_between, fit_alone, known_names, machine_of, visible, Place, FIRST_RULES,
+    architecture_of, edits_between, first_part, fit_alone, known_names, machine_of, visible, Place, FIRST_RULES,
 };
 use crate::table::WORDS;
 use crate::{Dialect, FloatAbi};
@@ -109,6 +109,8 @@ pub struct Evidence<'a> {
     form: Said<&'static str>,
     /// The first word that isn't understood, after the first that says a machine or a system.
     pub(crate) unknown: Option<&'a str>,
+    /// Alpine's `armhf` is Armv6.
+    is_of_alpine: bool,
     /// A machine and `elf` stand there without a system: it is none.
     is_bare: bool,
     /// Before that, a word isn't understood, as in the name of a program.
@@ -278,7 +280,8 @@ impl<'a> Evidence<'a> {
             "64" => self.width.add(PointerWidth::U64),
             "hard" => self.floats.add(FloatAbi::Hard),
             "soft" => self.floats.add(FloatAbi::Soft),
-            "v2" | "v3" | "v4" | "neon" => self.level.add(what),
+            "v2" | "v3" | "v4" | "neon" | "i486" => self.level.add(what),
+            "alpine" => self.is_of_alpine = true,
             _ if what.starts_with("power") && !what.starts_with("powerpc") || what.starts_with("rva") => {
                 self.level.add(what)
             }
@@ -340,6 +343,11 @@ impl<'a> Evidence<'a> {
             // In `aarch64-arm-none-eabi` it is another one.
             Said::One(Architecture::Aarch64(_)) if self.is_any_arm && has_floats => Said::Contradicted,
             Said::Unsaid if self.is_any_arm && (has_floats || !may_be_64) => Said::One(arm),
+            Said::One(it) if self.is_of_alpine && it == arm => match self.floats {
+                Said::One(FloatAbi::Hard) => Said::One(Architecture::Arm(ArmArchitecture::Armv6)),
+                Said::One(FloatAbi::Soft) => Said::One(Architecture::Arm(ArmArchitecture::Armv5te)),
+                _ => Said::One(it),
+            },
             said => said,
         }
     }
@@ -657,6 +665,11 @@ pub(crate) fn said(word: &str) -> Option<&'static str> {
         (is_system || has_versions).then_some(said)
     };
     listed(word).or_else(|| machine_named(word)).or_else(|| system_named(word)).or_else(versioned)
+}
+
+/// The level that the first part of a string says which is spelled like a triple, such as `i486`, or nothing.
+pub(crate) fn level_spelled(text: &str) -> &'static str {
+    Evidence::of(first_part(text).0).level.one().unwrap_or("")
 }
 
 /// Whether a word is understood, and says nothing of a target.

@@ -44,7 +44,8 @@ pub(crate) fn may_have_name(machine: Machine<'_>, named: Machine<'_>, is_on_syst
             !is_stated && !is_on_system || is_at_most(machine, on_systems)
         }
         // `i386` is the name of its family too, and names of Armv5 mean each one.
-        (Architecture::X86_32(I386) | Architecture::Arm(Armv5t), _) => is_at_most(machine, named),
+        (Architecture::X86_32(I386), _) if machine.1.is_empty() => is_at_most(machine, named),
+        (Architecture::Arm(Armv5t), _) => is_at_most(machine, named),
         (it, _) if machine.1.is_empty() && has_no_level(it) => is_at_most(machine, named),
         _ => is_at_most(machine, named) && is_at_most(named, machine),
     }
@@ -56,7 +57,7 @@ pub(crate) fn level_of((architecture, word): Machine<'_>) -> (Architecture, u32)
     use Architecture::*;
     let (kind, bits) = match architecture {
         // Words for x86, such as `386` and `x86`, mean either of the last two.
-        X86_32(it) => (X86_32(I686), if it == I386 { 0 } else { 1 }),
+        X86_32(it) => (X86_32(I686), if it == I386 { 0 } else { first(2) }),
         // Haswell, which has the third level.
         X86_64h => (X86_64, first(3)),
         X86_64 => (X86_64, first(1)),
@@ -73,6 +74,9 @@ pub(crate) fn level_of((architecture, word): Machine<'_>) -> (Architecture, u32)
     let version = word.strip_prefix('v');
     let (major, minor) = version.map_or(("", ""), |it| it.split_once('.').unwrap_or((it, "0")));
     let stated = match (kind, word) {
+        (_, "i486") => first(1),
+        (_, "pentium4") => first(3),
+        (_, "athlon") => 1 << 3,
         (X86_64, _) => first(number(major)),
         // Armv9 has what Armv8.5 has.
         (Aarch64(_), _) if major == "9" => first(5 + number(minor)) | 1 << 16,
@@ -158,14 +162,14 @@ mod tests {
     armv7 thumbv7neon armv7k, armv6 armv6t2 armv7, armv7 thumbv7neon armv8, armv7 armv7@neon armv8, \
     thumbv6m thumbv7m thumbv7em, thumbv6m thumbv8m.base thumbv8m.main, thumbv7m thumbv8m.main, armv7r armv8r, \
     armeb armebv7r, thumbeb armebv7r, arm armv4t, x86_64 x86_64@v2 x86_64@v3 x86_64@v4, \
-    x86_64@v2 x86_64h x86_64@v4, i386 i586, aarch64 aarch64@v8.1 aarch64@v8.5 aarch64@v9 aarch64@v9.2, \
+    x86_64@v2 x86_64h x86_64@v4, i386 i386@i486 i586 i586@pentium4, aarch64 aarch64@v8.1 aarch64@v8.5 aarch64@v9 aarch64@v9.2, \
     powerpc64le powerpc64le@power9 powerpc64le@power10, powerpc64 powerpc64@power7 powerpc64@power8, \
     riscv64 riscv64imac riscv64gc riscv64@rva22u64 riscv64@rva23u64, \
     riscv32i riscv32im riscv32ima riscv32imac riscv32imafc riscv32gc";
 
     /// Between two commas no machine is at most another one.
     const APART: &str = "\
-        thumbv7m armv7 armv7r, armv6k armv6t2, armebv7r armv7r, mips mipsel, x86_64 i686, aarch64@v8.6 aarch64@v9, \
+        thumbv7m armv7 armv7r, i686@pentium4 i686@athlon, armv6k armv6t2, armebv7r armv7r, mips mipsel, x86_64 i686, aarch64@v8.6 aarch64@v9, \
         thumbv8m.base thumbv7em, thumbv7em thumbv8m.main, armv7ve thumbv7neon, powerpc64 powerpc64le riscv32";
 
     /// Between two commas each machine is at most each other one. No machine has a higher level than some number.

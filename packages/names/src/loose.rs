@@ -299,7 +299,7 @@ const ARCHIVES: [&str; 7] = [".tar.gz", ".tar.xz", ".tar.zst", ".tar.bz2", ".tgz
 
 /// What the folders of GoReleaser say of the machines that Go takes if nothing else is said.
 const USUAL_MACHINES: &str = "amd64_v1 arm64_v8.0 386_sse2 mips_hardfloat mipsle_hardfloat \
-    mips64_hardfloat mips64le_hardfloat ppc64_power8 ppc64le_power8 riscv64_rva20u64";
+    mips64_hardfloat mips64le_hardfloat ppc64le_power8 riscv64_rva20u64";
 
 /// The tools after the prefix of a cross compiler, of which the first that fits is it.
 const TOOLS: &str = "gcc-ar gcc-nm gcc-ranlib gcov-dump gcov-tool lto-dump gcc g++ cc c++ cpp clang \

@@ -1,4 +1,5 @@
 //! What a name means to every tool that has it.
+use crate::evidence::level_spelled;
 use crate::spelled::is_of_machine;
 use crate::table::OF_CONFIG_SUB;
 use crate::{read, Dialect, Evidence, NameError, Said, Sense};
@@ -145,6 +146,6 @@ fn as_triple(text: &str) -> Option<Meaning<'_>> {
         {
             None
         }
-        _ => Some(Meaning { of, sense: Ok(triple.step().into()) }),
+        _ => Some(Meaning { of, sense: Ok(Sense { triple: triple.step(), level: level_spelled(text) }) }),
     }
 }
