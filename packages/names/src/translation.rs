@@ -2,12 +2,13 @@
 //!
 //! This is the composition of reading, completing and writing, and the reason where a triple has no name.
 use crate::dialect::{has_version, is_written, text_in, Row, Sense, Way, MAX_LENGTH};
-use crate::shape::{is_another_target, version};
+use crate::shape::{is_another_target, usual_vendor, version};
 use crate::table::WRITE_REASONS;
 use crate::{ChosenLibc, Dialect, Name, NameError, TargetInfo, VersionOf, Versions, WriteError};
 use core::fmt;
 use target_lexicon::{
-    Architecture, ArmArchitecture, Environment, OperatingSystem, Riscv64Architecture, TripleRef, X86_32Architecture,
+    Architecture, ArmArchitecture, Environment, OperatingSystem, Riscv64Architecture, TripleRef, VendorRef,
+    X86_32Architecture,
 };
 
 impl WriteError {
@@ -287,7 +288,9 @@ impl Dialect {
         let shape = self.shape(triple);
         let (mut whole, mut bare) = ([0; MAX_LENGTH], [0; MAX_LENGTH]);
         let whole = text_in(&mut whole, &shape);
-        let bare = text_in(&mut bare, &TripleRef { environment: Environment::Unknown, ..shape });
+        // The usual vendor may depend on the machine.
+        let vendor = VendorRef::Known(usual_vendor(Architecture::X86_64, shape.operating_system));
+        let bare = text_in(&mut bare, &TripleRef { vendor, environment: Environment::Unknown, ..shape });
         let system = after_machine(bare);
         let machine = &bare[..bare.len() - system.len()];
         let mut why = WriteError::NoMachineOnAnySystem;

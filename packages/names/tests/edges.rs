@@ -63,7 +63,7 @@ it names an Arm of 32 or of 64 bits, and no system=arm
 its words name arm-unknown-linux=linux-arm-32bit, armv8-32-linux
 it names a system, and no single machine known here=linux, linux-x86_w64, linux-x86_6f, linux-arm-64bit, \
     arm-v7.1-linux, mip_s64eb-linux, powerp_c-4-linux
-it names several systems=x64-linux-windows
+it names several systems=x64-linux-windows, cmake-4.0.0-sunos-sparc64.tar.gz
 its words say arm, soft-float, linux, gnu; here nobody knows `__`=arm-linux-gnueabi__
 it names a machine, and no system=x64
 it names a machine, and no system known here=x64-foo
