@@ -401,6 +401,6 @@ Names that no tool has, and what their words say:
   ios-arm64_x86_64-simulator
     is known in part: it names several machines
   nios2-linux-gnu
-    is known in part: it names a system, and no single machine known here
+    is known in part: it names a machine that no triple has
   dotnet-sdk-8.0-linux-x64-foo
     is known in part: its words say x86_64, linux; here nobody knows `foo`

@@ -224,7 +224,7 @@ impl<'a> Hints<'a> {
         // What says nothing may be a misspelled ABI: `aarch64-apple-ios-iso`.
         let is_vendor = |it: &str| VendorRef::from_str(it).map_or(false, |it| !it.is_custom());
         let is_left_out = |it: &str| says_nothing(it) && !is_vendor(it);
-        let has_title = evidence.has_title || name.split(SIGNS).any(is_left_out);
+        let has_title = evidence.has_title || name.split('-').any(is_left_out);
         let said = evidence.sense().filter(|it| it.level.is_empty() && !has_title);
         let named = spelled.or(said.map(|it| it.triple));
         let known = named.and_then(|it| dialect.name_with_floats_of(&it));
