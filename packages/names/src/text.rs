@@ -118,7 +118,10 @@ impl Value {
     fn of(key: &str, is_check: bool) -> Value {
         let end = key.rsplit(['/', '.']).next();
         let is_option = key.strip_prefix("target_").map_or(false, |it| CFG_OPTIONS.contains(&it));
+        // A compiler's option for a processor: `-mcpu=rios2`, `-march=armv8-a`.
+        let is_processor = key.starts_with("-m") && !has(key, "triple");
         match () {
+            _ if is_processor => Value::None,
             _ if (KEYS.iter().any(|it| has(key, it)) || has_arch(key)) && !is_option => Value::Target,
             _ if is_check && (PART_KEYS.iter().any(|it| has(key, it)) || matches!(end, Some("os" | "system"))) => {
                 Value::Part
