@@ -201,9 +201,11 @@ impl<'a> Evidence<'a> {
         let is_title = !has_begun && !says(Kind::Machine) && !says(Kind::System);
         let may_be_title =
             ["gnu", "soft", "hard", "32", "64", "sim", "newlib", "neon", "ibm", "sun", "nvidia"].contains(&said);
-        // What an ABI follows is a system, and no part of a name without a vendor: `arm-none-eabi-10.3-mac`.
+        // What an ABI follows is a system, and no part of a name without a vendor, as no distribution is:
+        // `arm-none-eabi-10.3-mac`, `riscv32-none-ubuntu`.
         self.is_bare |= said == "elf" && self.has_machine() && self.system == Said::Unsaid;
-        let is_none = self.is_bare || self.system == Said::One("none") && before.is_none();
+        let is_apart = before.is_none() || said == "linux gnu";
+        let is_none = self.is_bare || self.system == Said::One("none") && is_apart;
         if is_none && says(Kind::System) && said != "none" {
             self.system = Said::Contradicted;
         }
