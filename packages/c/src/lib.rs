@@ -42,8 +42,8 @@ use numbers::*;
 use sources::FieldSources;
 use target_lexicon::{DeploymentTarget, Field, TextPart, TripleRef};
 use target_names::{
-    vendor_suggestion, Dialect, Name, NameError, Note, Suggest as _, Suggestion, TargetInfo, TranslateError, Verdict,
-    VersionOf, Versions, Word, WriteError,
+    level_spelled, vendor_suggestion, Dialect, Name, NameError, Note, Sense, Suggest as _, Suggestion, TargetInfo,
+    TranslateError, Verdict, VersionOf, Versions, Word, WriteError,
 };
 use text::{shown, write_text, written, Text};
 use triple::{NumberedTriple, TripleNumbers};
@@ -528,7 +528,10 @@ pub unsafe extern "C" fn lexicon_translate(
         let text = text_of(bytes)?;
         let found = match from {
             Some(from) => from.translate_with(text, c_library, &versions, to),
-            None => to.write_with_versions(meant(None, text)?, c_library, &versions).map_err(TranslateError::Write),
+            None => {
+                let meant = Sense { triple: meant(None, text)?, level: level_spelled(text) };
+                to.write_with_versions(meant, c_library, &versions).map_err(TranslateError::Write)
+            }
         };
         found.map_err(|error| TextError::of_name(error, text))
     };

@@ -48,8 +48,10 @@ impl Helper {
         }
         let Help { suggestion, note } = help_of_names(refusal, target.text);
         let note = note.or_else(|| if refusal.has_reason() { None } else { self.note(target) });
-        let is_refused = suggestion.is_none() && refusal.is_of_triple(target.text);
-        let note = note.or_else(|| if is_refused { shown(Note::of(target.text.trim(), None)) } else { None });
+        let is_whole = refusal.is_of_triple(target.text);
+        let of_text = || Note::of(target.text.trim(), None).filter(|it| is_whole || matches!(it, Note::Ascii(_)));
+        let may_be = suggestion.is_none() && (is_whole || !target.text.is_ascii());
+        let note = note.or_else(|| if may_be { shown(of_text()) } else { None });
         let note = self.triple_note(target.text, refusal, note);
         let help = Help { suggestion, note };
         if self.remembered.len() < REMEMBERED

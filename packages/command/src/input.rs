@@ -10,7 +10,7 @@ use std::io::{self, BufRead, BufReader, ErrorKind};
 use std::num::NonZeroUsize;
 use std::path::{Path, PathBuf};
 use std::{fmt, str};
-use target_names::{meanings, targets_in, words_in, Word};
+use target_names::{meanings, targets_in, words_in, Meaning, Word};
 
 pub const STANDARD_INPUT: &str = "<stdin>";
 
@@ -101,6 +101,7 @@ fn each_in_texts(path: &Path, answers: &mut impl Answers) -> Result<(), Fault> {
                 Err(Fault::Stream { name, why }) if name == path.display().to_string() => {
                     answers.skip_unread(Fault::Stream { name, why })?;
                 }
+                Err(Fault::NotText { .. }) => answers.skip_binary(),
                 ended => ended?,
             }
         }
@@ -108,7 +109,7 @@ fn each_in_texts(path: &Path, answers: &mut impl Answers) -> Result<(), Fault> {
     Ok(())
 }
 
-/// The bytes of a file, unless one of them is zero: then it is no text, and isn't read further.
+/// The bytes of a file, unless one of them is zero: then it is no text, and isn't read further. In UTF-16 it is refused.
 fn text_of(path: &Path, file: &str) -> Result<Option<Vec<u8>>, Fault> {
     let fault = |why| Fault::Stream { name: file.into(), why };
     if !fs::metadata(path).map_err(fault)?.is_file() {
@@ -127,7 +128,8 @@ fn text_of(path: &Path, file: &str) -> Result<Option<Vec<u8>>, Fault> {
             return Ok(Some(bytes));
         }
         if read.contains(&0) {
-            return Ok(None);
+            let is_utf16 = bytes.is_empty() && is_utf16(read);
+            return if is_utf16 { Err(Fault::NotText { place: format!("{file}:1:1"), is_utf16 }) } else { Ok(None) };
         }
         bytes.try_reserve(count).map_err(|_| fault(ErrorKind::OutOfMemory.into()))?;
         bytes.extend_from_slice(read);
@@ -214,9 +216,13 @@ pub fn each_target(arguments: &ArgMatches, answers: &mut impl Answers) -> Result
     Ok(())
 }
 
-/// Whether an argument is no name of any tool, and is the path of a file or a folder.
+/// Whether an argument is no name of any tool, and is the path of a file or a folder. With a custom vendor it is no name
+/// if it is the path of a file with an extension, as `arm-build.sh` may be.
 fn is_path(text: &str) -> bool {
-    meanings(text).next().is_none() && Path::new(text).exists()
+    let path = Path::new(text);
+    let is_file = || path.extension().is_some() && path.is_file();
+    let has_custom_vendor = |it: Meaning<'_>| it.sense.map_or(false, |it| it.triple.vendor.is_custom());
+    path.exists() && (meanings(text).next().is_none() || is_file() && meanings(text).all(has_custom_vendor))
 }
 
 /// What ends a line, and the answer to it.

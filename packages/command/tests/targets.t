@@ -144,6 +144,11 @@ An argument that is the path of a file is a text, in which targets are found. A 
   !   note: no file has this name either
   $ printf 'x86_64-linux\n\0\n' > bytes; target-lexicon check bytes
   ! note: 1 binary file not read
+  $ mkdir utf16; printf '\xff\xfez\08\0' > utf16/it; target-lexicon check utf16 utf16/it
+  ! target-lexicon: utf16/it:1:1: UTF-16, not UTF-8
+  [3]
+  $ echo 'on: x86_64-linux-gnuu' > arm-build.sh; mkdir arm-build; target-lexicon check arm-build.sh arm-build | head -n 1
+  ! arm-build.sh:1:18: error: unrecognized environment `gnuu`
   $ printf 'caf\xe9: x86_64-linux-gnuu\n' > bytes; target-lexicon check bytes | head -n 1
   ! bytes:1:20: error: unrecognized environment `gnuu`
 

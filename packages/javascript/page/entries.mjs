@@ -48,11 +48,12 @@ function namesAndReasons({ WRITTEN }, triple, libcs) {
 }
 
 /** Likewise of a tool's name that says a level of the machine, which its triple can't. */
-function namesAtLevel({ ParseError, WRITTEN, translate }, text, triple, tool, libcs) {
-  const names = {}, reasons = {}, libc = libcs.find((it) => !triple.complete(it).equals(triple)) ?? null;
+function namesAtLevel({ DIALECTS, ParseError, WRITTEN, translate }, text, triple, tool, libcs) {
+  const names = {}, reasons = {}, libc = libcs.find((it) => !triple.complete(it).equals(triple)) ?? null,
+    from = DIALECTS.includes(tool) ? tool : null;
   for (const dialect of WRITTEN) {
     try {
-      names[dialect] = translate(text, tool, dialect, libc);
+      names[dialect] = translate(text, from, dialect, libc);
     } catch (error) {
       if (!(error instanceof ParseError)) throw error;
       names[dialect] = null;

@@ -669,8 +669,10 @@ pub(crate) fn said(word: &str) -> Option<&'static str> {
     listed(word).or_else(|| machine_named(word)).or_else(|| system_named(word)).or_else(versioned)
 }
 
-/// The level that the first part of a string says which is spelled like a triple, such as `i486`, or nothing.
-pub(crate) fn level_spelled(text: &str) -> &'static str {
+/// The level of the machine that the first part of a string says which is [read](crate::read) as spelled like a triple,
+/// and that the triple can't state: `i486` of `i486-linux-gnu`, else an empty string.
+#[must_use]
+pub fn level_spelled(text: &str) -> &'static str {
     Evidence::of(first_part(text).0).level.one().unwrap_or("")
 }
 

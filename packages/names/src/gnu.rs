@@ -63,6 +63,9 @@ impl<'a> Parts<'a> {
 
     /// Refuses what config.sub refuses, or takes for something else, of what is spelled like a triple.
     fn check(&self) -> Result<(), NameError> {
+        if !self.maker.bytes().all(|it| it.is_ascii_graphic()) {
+            return Err(NameError::Unknown);
+        }
         let maker = self.maker.trim_end_matches(|it: char| it.is_ascii_digit());
         let is_other_maker = |end: &&str| maker.ends_with(*end);
         let is_refused = |part: &str| {

@@ -69,8 +69,8 @@ mod versions;
 
 pub use dialect::{NameError, Sense};
 pub use driver::{TypeLayout, TypeSizes};
-pub use evidence::Evidence;
 use evidence::Said;
+pub use evidence::{level_spelled, Evidence};
 pub use hints::{Meant, Mistake};
 pub use llvm_target::LlvmTarget;
 pub use meanings::{meanings, readers, Meaning, NameOf};

@@ -1,8 +1,7 @@
 //! What a name means to every tool that has it.
-use crate::evidence::level_spelled;
 use crate::spelled::is_of_machine;
 use crate::table::OF_CONFIG_SUB;
-use crate::{read, Dialect, Evidence, NameError, Said, Sense};
+use crate::{level_spelled, read, Dialect, Evidence, NameError, Said, Sense};
 use target_lexicon::{KnownVendor, OperatingSystem, TripleRef, VendorRef};
 
 /// Whose name it is: that of a dialect, or of nobody but who spells triples. `Display` says it in a word.

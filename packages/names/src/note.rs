@@ -87,5 +87,6 @@ pub(crate) fn is_typeset(text: &str) -> bool {
     let mut spelled = Buffer::<LONGEST_PATH>::new();
     !text.is_ascii()
         && plain(text).try_for_each(|it| spelled.write_char(it)).is_ok()
+        && spelled.as_str().bytes().all(|it| it == b' ' || it.is_ascii_graphic())
         && meaning_with(spelled.as_str(), &mut |_| true).is_some()
 }

@@ -2,7 +2,7 @@
 use super::*;
 use crate::arguments::{conflict, dialect, dialect_of, words, wrapped, written};
 use clap::{Arg, ArgAction};
-use target_names::{Dialect, Name, TranslateError, VersionOf, Versions};
+use target_names::{level_spelled, Dialect, Name, Sense, TranslateError, VersionOf, Versions};
 
 pub fn command() -> Command {
     of_targets(
@@ -82,9 +82,10 @@ impl Translate {
         let unwritten = |error| Refusal::of_written(text, to, error);
         let Some(from) = reader.from else {
             let (triple, _) = reader.stated(text)?;
+            let meant = Sense { triple, level: level_spelled(text) };
             let libc = reader.libc_for(triple);
-            let name = to.write_with_versions(triple, libc, &self.versions).map_err(unwritten)?;
-            reader.needs_libc_if(|| to.write_with_versions(triple, None, &self.versions) != Ok(name));
+            let name = to.write_with_versions(meant, libc, &self.versions).map_err(unwritten)?;
+            reader.needs_libc_if(|| to.write_with_versions(meant, None, &self.versions) != Ok(name));
             return Ok(name);
         };
         let meant = from.read_loosely(text);
