@@ -175,7 +175,7 @@ An unknown environment after a machine and a system is wrong, and so is what is 
   > "archs": [armv7em, armv4b] and android-armeabi; arch=$arch64; magic_arch='\x7f\x46'; s/arch_64/x: "a/arch_64/x"
   > HOSTARCH=`uname -m | sed -e s/sparc$/sparc32/`
   > device("avr-watchdog", riscv32e_unknown_none_elf), arm64-windows-abi-conventions, x86_64-unknown-haiku-g++
-  > "-mcpu=rios2"; target = x23; cpu=arm9; os=unos
+  > "-mcpu=rios2"; target = x23; cpu=arm9; os=unos; "a/csky-linux-gnu/libc"
   > END
   $ target-lexicon check words.yml | grep -v '^!   '
   ! words.yml:1:28: error: unrecognized environment `gnueabhif`

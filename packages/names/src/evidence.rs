@@ -94,7 +94,7 @@ pub struct Evidence<'a> {
     /// It says `arm` or `armv8`, which may have 32 bits or 64.
     is_any_arm: bool,
     /// It has a word for a machine that no triple has.
-    is_other_machine: bool,
+    pub(crate) is_other_machine: bool,
     level: Said<&'static str>,
     width: Said<PointerWidth>,
     /// The byte order that a misspelled machine's word ends with, such as `powerpcel`.
