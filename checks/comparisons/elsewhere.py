@@ -53,22 +53,17 @@ LISTS = ("first", "second", "hard", "later")
 OF_TRIPLES, OF_MACHINES = ("gnu", "rust"), ("rpm", "apk", "pacman")
 # The architecture of a machine's word that only one name has, so that no other name of a dialect says what it means.
 ONLY_ONCE = {"arm64ilp32": "aarch64", "powerpcspe": "powerpc", "x32": "x86_64", "amd64/v1": "x86_64",
-             "arm/v5": "armv5te", "arm/v8": "armv8",
-             "x86-64": "x86_64", "arm64_v8a": "aarch64", "armeabi_v7a": "armv7", "x86": "i686", "armv8l": "armv8",
-             "ppc": "powerpc",
-             "win32": "i686", "arm32": "armv7", "lpia": "i686", "riscv": "riscv32", "arm64be": "aarch64_be",
-             "amd64_v1": "x86_64", "arm64_v8.0": "aarch64",
-             "arm/v7l": "armv7", "arm64v8": "aarch64", "aarch64_be": "aarch64_be", "armv4tl": "armv4t",
-             "power macintosh": "powerpc",
-             "octeon": "mips64", "loongson": "mips64el", "i686-at386": "i686", "bepc": "i586", "em64t": "x86_64",
-             "ia32e": "x86_64",
-             "athlon": "i686", "geode": "i586", "armv6hl": "armv6", "armv7hl": "armv7", "armv7hnl": "armv7",
-             "armv8hl": "armv8", "ppc64p7": "powerpc64",
-             "sparcv9": "sparc", "armv7h": "armv7", "armv6h": "armv6", "thumb": "thumbv7a",
+             "arm/v5": "armv5te", "arm/v8": "armv8", "x86-64": "x86_64", "arm64_v8a": "aarch64",
+             "armeabi_v7a": "armv7", "x86": "i686", "armv8l": "armv8", "ppc": "powerpc", "win32": "i686",
+             "arm32": "armv7", "lpia": "i686", "riscv": "riscv32", "arm64be": "aarch64_be", "amd64_v1": "x86_64",
+             "arm64_v8.0": "aarch64", "arm/v7l": "armv7", "arm64v8": "aarch64", "aarch64_be": "aarch64_be",
+             "armv4tl": "armv4t", "power macintosh": "powerpc", "octeon": "mips64", "loongson": "mips64el",
+             "i686-at386": "i686", "bepc": "i586", "em64t": "x86_64", "ia32e": "x86_64", "athlon": "i686",
+             "geode": "i586", "armv6hl": "armv6", "armv7hl": "armv7", "armv7hnl": "armv7", "armv8hl": "armv8",
+             "ppc64p7": "powerpc64", "sparcv9": "sparc", "armv7h": "armv7", "armv6h": "armv6", "thumb": "thumbv7a",
              "armel": "armv5te", "arm32v5": "armv5te", "arm32v6": "armv6", "arm32v7": "armv7", "arm64/v8.0": "aarch64",
-             "wasm64": "wasm64",
-             "earmv6hf": "armv6", "earmv7hf": "armv7", "armv7a": "armv7", "msp430": "msp430", "bpfeb": "bpfeb",
-             "bpfel": "bpfel"}
+             "wasm64": "wasm64", "earmv6hf": "armv6", "earmv7hf": "armv7", "armv7a": "armv7", "msp430": "msp430",
+             "bpfeb": "bpfeb", "bpfel": "bpfel"}
 # Words that mean another machine in one dialect, or there on one system: the little-endian builds of Node on Linux, the
 # versions of Arm that a tool needs, models of the i386 that others don't tell apart, and programs of 32 bits on
 # Windows.
@@ -90,12 +85,11 @@ NOT_PORTS = ("386", "amd64", "arm64", "linux/s390", "zos/s390x")
 NOT_RUSTC = ("universal2-apple-darwin",)
 # Other spellings that no rule of `spelled_by_rule` explains, and what they are read as.
 SPELLINGS = {"amd64": "x86_64", "armel": "arm", "i486": "i386", "bpf_be": "bpfeb", "bpf_le": "bpfel",
-             "systemz": "s390x", "thumbv7": "thumbv7a", "w64": "pc",
-             "mingw32": "windows-gnu", "mingw64": "windows-gnu", "win32": "windows-msvc", "macos": "macosx",
-             "macos+": "macosx", "mac+": "macosx", "sunos5": "solaris", "sunos5*": "solaris", "gnu*": "hurd-gnu",
-             "netbsdelf": "netbsd", "netbsdelf*": "netbsd", "simulator": "sim", "x64": "x86_64",
-             "ppc64el": "powerpc64le", "rs6000": "powerpc",
-             "sun4v": "sparc64", "mingw32ucrt": "windows-gnu", "gnu.*": "gnu", "gnu2.*": "gnu",
+             "systemz": "s390x", "thumbv7": "thumbv7a", "w64": "pc", "mingw32": "windows-gnu",
+             "mingw64": "windows-gnu", "win32": "windows-msvc", "macos": "macosx", "macos+": "macosx",
+             "mac+": "macosx", "sunos5": "solaris", "sunos5*": "solaris", "gnu*": "hurd-gnu", "netbsdelf": "netbsd",
+             "netbsdelf*": "netbsd", "simulator": "sim", "x64": "x86_64", "ppc64el": "powerpc64le",
+             "rs6000": "powerpc", "sun4v": "sparc64", "mingw32ucrt": "windows-gnu", "gnu.*": "gnu", "gnu2.*": "gnu",
              "none-unknown-": "unknown-none", "windows-cygnus": "cygwin-unknown"}
 # The machines and ends of strings that config.sub is asked for, and the words of systems in its own text.
 MACHINES = """x86_64 i686 aarch64 arm armv7l armv6l armeb powerpc powerpc64le ppc64le mips mips64el riscv64 riscv32

@@ -1,9 +1,8 @@
 //! A triple is its string in serde, and so is each field.
 #![cfg(feature = "serde_support")]
 use serde::de::value::{BorrowedStrDeserializer, Error, StrDeserializer, U8Deserializer};
-use serde::de::{Deserializer, IntoDeserializer, Visitor};
-use serde::ser::{Impossible, Serializer};
-use serde::{forward_to_deserialize_any, Deserialize, Serialize};
+use serde::de::IntoDeserializer;
+use serde::{Deserialize, Serialize};
 use std::fmt::{self, Debug};
 use target_lexicon::{
     triple, Architecture, BinaryFormat, Environment, OperatingSystem, Triple, TripleExt as _, TripleRef, Vendor,
@@ -87,105 +86,6 @@ fn a_field_is_its_string() {
         "invalid value: string \"ACME\", expected the name of a vendor"
     );
     assert!(read::<Triple>(" x86_64-linux").is_err());
-}
-
-/// A format that isn't for people, in which a byte before a string has its length.
-struct Binary<'de>(&'de [u8]);
-
-impl<'de> Deserializer<'de> for Binary<'de> {
-    type Error = Error;
-
-    fn deserialize_any<V: Visitor<'de>>(self, visitor: V) -> Result<V::Value, Error> {
-        let string = &self.0[1..=usize::from(self.0[0])];
-        visitor.visit_borrowed_str(std::str::from_utf8(string).unwrap())
-    }
-
-    fn is_human_readable(&self) -> bool {
-        false
-    }
-
-    forward_to_deserialize_any! {
-        bool i8 i16 i32 i64 u8 u16 u32 u64 f32 f64 char str string bytes byte_buf option unit unit_struct
-        newtype_struct seq tuple tuple_struct map struct enum identifier ignored_any
-    }
-}
-
-/// Writes this format. Only a string can be written.
-struct ToBinary;
-
-macro_rules! refused {
-    ($($name:ident($($argument:ty),*) -> $ok:ty;)*) => {$(
-        fn $name(self, $(_: $argument),*) -> Result<$ok, Error> {
-            panic!(stringify!($name))
-        }
-    )*};
-    (T: $($name:ident($($argument:ty),*);)*) => {$(
-        fn $name<T: Serialize + ?Sized>(self, $(_: $argument,)* _: &T) -> Result<Vec<u8>, Error> {
-            panic!(stringify!($name))
-        }
-    )*};
-}
-
-type No = Impossible<Vec<u8>, Error>;
-type Text = &'static str;
-
-impl Serializer for ToBinary {
-    type Ok = Vec<u8>;
-    type Error = Error;
-    type SerializeSeq = No;
-    type SerializeTuple = No;
-    type SerializeTupleStruct = No;
-    type SerializeTupleVariant = No;
-    type SerializeMap = No;
-    type SerializeStruct = No;
-    type SerializeStructVariant = No;
-
-    fn serialize_str(self, string: &str) -> Result<Vec<u8>, Error> {
-        Ok([&[string.len() as u8], string.as_bytes()].concat())
-    }
-
-    fn is_human_readable(&self) -> bool {
-        false
-    }
-
-    refused! {
-        serialize_bool(bool) -> Vec<u8>; serialize_char(char) -> Vec<u8>; serialize_bytes(&[u8]) -> Vec<u8>;
-        serialize_i8(i8) -> Vec<u8>; serialize_i16(i16) -> Vec<u8>; serialize_i32(i32) -> Vec<u8>;
-        serialize_i64(i64) -> Vec<u8>; serialize_u8(u8) -> Vec<u8>; serialize_u16(u16) -> Vec<u8>;
-        serialize_u32(u32) -> Vec<u8>; serialize_u64(u64) -> Vec<u8>; serialize_f32(f32) -> Vec<u8>;
-        serialize_f64(f64) -> Vec<u8>; serialize_none() -> Vec<u8>; serialize_unit() -> Vec<u8>;
-        serialize_unit_struct(Text) -> Vec<u8>; serialize_unit_variant(Text, u32, Text) -> Vec<u8>;
-        serialize_seq(Option<usize>) -> No; serialize_tuple(usize) -> No; serialize_map(Option<usize>) -> No;
-        serialize_tuple_struct(Text, usize) -> No; serialize_tuple_variant(Text, u32, Text, usize) -> No;
-        serialize_struct(Text, usize) -> No; serialize_struct_variant(Text, u32, Text, usize) -> No;
-    }
-    refused! { T: serialize_some(); serialize_newtype_struct(Text); serialize_newtype_variant(Text, u32, Text); }
-}
-
-#[test]
-fn a_binary_format_is_written_with_the_same_strings() {
-    fn is_written(value: impl Serialize, string: &str) {
-        let bytes = value.serialize(ToBinary).unwrap();
-        assert_eq!((bytes[0] as usize, &bytes[1..]), (string.len(), string.as_bytes()));
-    }
-    let triple = triple!("armv7-acme-linux-musleabihf");
-    is_written(&triple, "armv7-acme-linux-musleabihf");
-    is_written(TripleRef::from(&triple), "armv7-acme-linux-musleabihf");
-    is_written(triple.architecture, "armv7");
-    is_written(&triple.vendor, "acme");
-    is_written(VendorRef::Custom("acme"), "acme");
-    is_written(triple.operating_system, "linux");
-    is_written(triple.environment, "musleabihf");
-    is_written(triple.binary_format, "elf");
-}
-
-#[test]
-fn a_binary_format_has_the_same_strings() {
-    let bytes = b"\x11x86_64-acme-linux";
-    let triple = triple!("x86_64-acme-linux");
-    assert_eq!(Triple::deserialize(Binary(bytes)), Ok(triple.clone()));
-    assert_eq!(TripleRef::deserialize(Binary(bytes)), Ok(TripleRef::from(&triple)));
-    assert_eq!(Environment::deserialize(Binary(b"\x04musl")), Ok(Environment::Musl));
 }
 
 #[test]
