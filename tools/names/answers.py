@@ -85,6 +85,7 @@ def lists(answers):
         found |= {
             f"the answers of {kind} for C": [f"{prefix}{it.constant} = {it.number},{comment}"
                                              for it, comment in zip(answers[kind], comments)],
+            f"the names of {kind} for C": filled([f'"{it.name}",' for it in answers[kind]], " ", "  "),
             f"the answers of {kind} for C++": filled([f"{it.variant} = {it.number}," for it in answers[kind]], " "),
             f"the answers of {kind} for TypeScript": [f"export type {of} = {' | '.join(quoted(kind, answers))};"],
         }

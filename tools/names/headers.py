@@ -55,8 +55,8 @@ def block(about, begin, lines, end):
             *(part for line in lines for part in in_lines(line)), end]
 
 
-def macro(about, name, lines):
-    return ["", f"/* {about} */", f"#define {name} \\", *(f"{line} \\" for line in lines[:-1]), lines[-1].rstrip(",")]
+def macro(name, lines):
+    return [f"#define {name} \\", *(f"{line} \\" for line in lines[:-1]), lines[-1].rstrip(",")]
 
 
 def comment(about):
@@ -72,11 +72,12 @@ def of_c(lists):
         lines += block(comment(ABOUT.get(name)), f"enum lexicon_{name} {{", members, "};")
     about = "What a compiler asks about a triple. 0 is no answer. A later version adds members at the end."
     lines += block(comment(about), "struct lexicon_triple_facts {", lists.pop("the facts for C"), "};")
-    lines += macro("The names of families, by their numbers.", "LEXICON_FAMILY_NAMES",
-                   lists.pop("the names of families for C"))
-    lines += macro("Those of dialects, from 1 on.", "LEXICON_DIALECT_NAMES", lists.pop("the dialects' names for C"))
-    lines += macro("Other names of dialects.", "LEXICON_OTHER_DIALECT_NAMES",
-                   lists.pop("the other names of dialects for C"))
+    lines += ["", "/* The names of families, from 0 on; of dialects, from 1 on; other names of dialects; and the names of",
+              "   answers, from 1 on. */"]
+    for name, of in {"FAMILY": "the names of families", "DIALECT": "the dialects' names",
+                     "OTHER_DIALECT": "the other names of dialects",
+                     **{kind.upper(): f"the names of {kind}" for kind in ENUMS}}.items():
+        lines += macro(f"LEXICON_{name}_NAMES", lists.pop(f"{of} for C"))
     return "\n".join([*lines, ""])
 
 

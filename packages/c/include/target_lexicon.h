@@ -420,16 +420,15 @@ LEXICON_NAMES(lexicon_status_name, "ok", "unrecognized architecture", "unrecogni
 LEXICON_NAMES(lexicon_field_name, "architecture", "vendor", "operating system", "environment", "binary format")
 LEXICON_NAMES(lexicon_family_name, LEXICON_FAMILY_NAMES)
 LEXICON_NAMES(lexicon_dialect_name, NULL, LEXICON_DIALECT_NAMES)
-LEXICON_NAMES(lexicon_chosen_libc_name, NULL, "glibc", "musl", "msvc", "mingw", "gnullvm")
+LEXICON_NAMES(lexicon_chosen_libc_name, NULL, LEXICON_CHOSEN_LIBC_NAMES)
 LEXICON_NAMES(lexicon_origin_name, "not given", "given", "implied", "alias")
-LEXICON_NAMES(lexicon_endianness_name, NULL, "little", "big")
-LEXICON_NAMES(lexicon_calling_convention_name, NULL, "SystemV", "WasmBasicCAbi", "WindowsFastcall", "AppleAarch64")
-LEXICON_NAMES(lexicon_data_model_name, NULL, "LP32", "ILP32", "LLP64", "LP64", "ILP64")
-LEXICON_NAMES(lexicon_c_library_name, NULL, "bionic", "glibc", "mingw", "msvc", "musl", "newlib", "relibc", "system",
-  "uclibc")
-LEXICON_NAMES(lexicon_float_abi_name, NULL, "soft", "hard")
-LEXICON_NAMES(lexicon_arm_profile_name, NULL, "A", "R", "M")
-LEXICON_NAMES(lexicon_signedness_name, NULL, "signed", "unsigned")
+LEXICON_NAMES(lexicon_endianness_name, NULL, LEXICON_ENDIANNESS_NAMES)
+LEXICON_NAMES(lexicon_calling_convention_name, NULL, LEXICON_CALLING_CONVENTION_NAMES)
+LEXICON_NAMES(lexicon_data_model_name, NULL, LEXICON_DATA_MODEL_NAMES)
+LEXICON_NAMES(lexicon_c_library_name, NULL, LEXICON_C_LIBRARY_NAMES)
+LEXICON_NAMES(lexicon_float_abi_name, NULL, LEXICON_FLOAT_ABI_NAMES)
+LEXICON_NAMES(lexicon_arm_profile_name, NULL, LEXICON_ARM_PROFILE_NAMES)
+LEXICON_NAMES(lexicon_signedness_name, NULL, LEXICON_SIGNEDNESS_NAMES)
 #undef LEXICON_NAMES
 
 /* The dialect of a name, such as "go" or "docker"; LEXICON_DIALECT_NONE if none has it. */
