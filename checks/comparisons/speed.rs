@@ -35,6 +35,15 @@ macro_rules! methods {
     };
 }
 
+/// Returns the pass of parsing as a type, of a name, with these strings.
+macro_rules! parses {
+    ($what:ident; $($name:literal of $strings:expr => $type:ty;)*) => {
+        $(if $what == $name {
+            return each($strings, |it: &String| drop(black_box(it.parse::<$type>())));
+        })*
+    };
+}
+
 macro_rules! calls {
     ($who:ident) => {
         mod $who {
@@ -106,6 +115,21 @@ macro_rules! calls {
                         double_size;
                     Size of models().map(|it| it.long_size()) => bits bytes;
                 }
+                parses! { what;
+                    "architecture" of architecture() => Architecture;
+                    "vendor" of shown(|it| it.vendor.to_string()) => Vendor;
+                    "operating_system" of shown(|it| it.operating_system.to_string()) => OperatingSystem;
+                    "environment" of shown(|it| it.environment.to_string()) => Environment;
+                    "binary_format" of shown(|it| it.binary_format.to_string()) => BinaryFormat;
+                    "ArmArchitecture" of architecture() => ArmArchitecture;
+                    "Aarch64Architecture" of architecture() => Aarch64Architecture;
+                    "X86_32Architecture" of architecture() => X86_32Architecture;
+                    "Mips32Architecture" of architecture() => Mips32Architecture;
+                    "Mips64Architecture" of architecture() => Mips64Architecture;
+                    "Riscv32Architecture" of architecture() => Riscv32Architecture;
+                    "Riscv64Architecture" of architecture() => Riscv64Architecture;
+                    "CleverArchitecture" of architecture() => CleverArchitecture;
+                }
                 match what {
                     "Triple::unknown" => each(read, |_| drop(black_box(Triple::unknown()))),
                     "Triple::host" => each(read, |_| drop(black_box(Triple::host()))),
@@ -149,39 +173,6 @@ macro_rules! calls {
                     "operating_system.into_str" => each(triples, |it| drop(black_box(it.operating_system.into_str()))),
                     "environment.into_str" => each(triples, |it| drop(black_box(it.environment.into_str()))),
                     "binary_format.into_str" => each(triples, |it| drop(black_box(it.binary_format.into_str()))),
-                    "architecture" => each(architecture(), |it| drop(black_box(it.parse::<Architecture>()))),
-                    "vendor" => each(shown(|it| it.vendor.to_string()), |it| drop(black_box(it.parse::<Vendor>()))),
-                    "operating_system" => each(shown(|it| it.operating_system.to_string()), |it| {
-                        drop(black_box(it.parse::<OperatingSystem>()))
-                    }),
-                    "environment" => {
-                        each(shown(|it| it.environment.to_string()), |it| drop(black_box(it.parse::<Environment>())))
-                    }
-                    "binary_format" => {
-                        each(shown(|it| it.binary_format.to_string()), |it| drop(black_box(it.parse::<BinaryFormat>())))
-                    }
-                    "ArmArchitecture" => each(architecture(), |it| drop(black_box(it.parse::<ArmArchitecture>()))),
-                    "Aarch64Architecture" => {
-                        each(architecture(), |it| drop(black_box(it.parse::<Aarch64Architecture>())))
-                    }
-                    "X86_32Architecture" => {
-                        each(architecture(), |it| drop(black_box(it.parse::<X86_32Architecture>())))
-                    }
-                    "Mips32Architecture" => {
-                        each(architecture(), |it| drop(black_box(it.parse::<Mips32Architecture>())))
-                    }
-                    "Mips64Architecture" => {
-                        each(architecture(), |it| drop(black_box(it.parse::<Mips64Architecture>())))
-                    }
-                    "Riscv32Architecture" => {
-                        each(architecture(), |it| drop(black_box(it.parse::<Riscv32Architecture>())))
-                    }
-                    "Riscv64Architecture" => {
-                        each(architecture(), |it| drop(black_box(it.parse::<Riscv64Architecture>())))
-                    }
-                    "CleverArchitecture" => {
-                        each(architecture(), |it| drop(black_box(it.parse::<CleverArchitecture>())))
-                    }
                     "lexicon_parse, lexicon_print" => each(read, |it| print(it.parse::<Triple>().expect("a triple"))),
                     "lexicon_parse, lexicon_facts" => each(read, |it| ask(&it.parse().expect("a triple"))),
                     "lexicon_facts" => each(triples, ask),
