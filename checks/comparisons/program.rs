@@ -92,7 +92,11 @@ fn main() -> io::Result<ExitCode> {
         }
         Some("cfg") => each(|triple| triple.rustc_cfg().to_string(), "\n")?,
         Some("driver") => each(driver, "")?,
-        Some("suggestions") => suggestions::check(&io::read_to_string(io::stdin())?),
+        Some("suggestions") => {
+            let number = |at: usize| std::env::args().nth(at).and_then(|it| it.parse().ok()).expect("a number");
+            let of = suggestions::Share { step: number(2), first: number(3) };
+            suggestions::check(&io::read_to_string(io::stdin())?, of);
+        }
         _ => lines::answer(|triple| triple.settle().ok())?,
     }
     Ok(ExitCode::SUCCESS)

@@ -1,6 +1,8 @@
 """Asks what the Rust crate suggests for edits of one letter and of two letters of each known name, of each name of a
 dialect, and of rustc's targets: it must have its place, and keep machine, width, byte order and float ABI. Only letters
-are put that some name has there, and three others; of two letters only some edits are asked."""
+are put that some name has there, and three others; of two letters only some edits are asked. With --share N only each
+N-th edit is asked, others on each day."""
+import datetime
 import subprocess
 
 import built
@@ -45,13 +47,19 @@ def names():
     yield from (("word", name, f"{machine}-unknown") for name, machine in WORDS.items())
 
 
-def main(_options, _folder):
+def add_arguments(parser):
+    parser.add_argument("--share", metavar="N", type=int, default=1, help="ask each N-th edit, others on each day")
+
+
+def main(options, _folder):
     program = built.cargo_program("compare", "lines", 2)
     known = output(program, "print", input="".join(f"{triple}\n" for _, _, triple in names())).splitlines()
     # A string that parses is what it prints as, and so is known.
     lines = [f"{kind}\t{name}\t{triple}\n" for (kind, name, triple), it in zip(names(), known)
              if not it.startswith("error: ")]
-    ran = subprocess.run([program, "suggestions"], input="".join(lines), text=True, capture_output=True, check=True)
+    first = datetime.date.today().toordinal() % options.share
+    ran = subprocess.run([program, "suggestions", str(options.share), str(first)], input="".join(lines), text=True,
+                         capture_output=True, check=True)
     print(ran.stdout, end="")
     found = sum(int(line.split()[-2]) for line in ran.stdout.splitlines() if line.endswith(" wrong"))
     return 1 if found or not ran.stdout else 0

@@ -1,7 +1,7 @@
 //! What is suggested for edits of names: each line of the input is a field, a dialect or `triple`, a name, and the
 //! triple that the name means; or `word`, another name of an architecture, and its triple. Of each name edits of one
-//! letter are asked, and some of two. A suggestion must have its place, and keep machine, width, byte order and float
-//! ABI: those of the name, or of a machine that the edited name states by its whole word.
+//! letter are asked, or each so many-th, and some of two. A suggestion must have its place, and keep machine, width,
+//! byte order and float ABI: those of the name, or of a machine that the edited name states by its whole word.
 use std::collections::{BTreeMap, BTreeSet, HashMap};
 use std::thread;
 use target_lexicon::{Architecture, Endianness, PointerWidth, Triple, TripleExt as _, TripleRef};
@@ -121,10 +121,22 @@ struct Found {
     wrong: Vec<String>,
 }
 
+/// Which edits are asked: from the first on each so many-th.
+#[derive(Clone, Copy)]
+pub struct Share {
+    pub first: usize,
+    pub step: usize,
+}
+
 /// Asks the edits of a name with this meaning.
-fn ask_edits(words: &HashMap<&str, Said>, kind: &str, letters: &Letters, name: &str, means: &Said) -> Found {
+fn ask_edits(words: &HashMap<&str, Said>, kind: &str, letters: &Letters, name: &str, means: &Said, of: Share) -> Found {
     let mut found = Found::default();
+    let mut number = 0;
     let mut ask = |edited: &[char]| {
+        number += 1;
+        if number % of.step != of.first {
+            return;
+        }
         let text: String = edited.iter().collect();
         found.asked += 1;
         if let Some((suggested, is_wrong)) = suggested(words, kind, name, &text, means) {
@@ -153,7 +165,7 @@ fn ask_edits(words: &HashMap<&str, Said>, kind: &str, letters: &Letters, name: &
 }
 
 /// Prints what was found of each kind of names, which all processors ask.
-pub fn check(input: &str) {
+pub fn check(input: &str, of: Share) {
     let mut words = HashMap::new();
     let mut kinds: BTreeMap<&str, Vec<(&str, Said)>> = BTreeMap::new();
     for line in input.lines() {
@@ -178,7 +190,7 @@ pub fn check(input: &str) {
         let letters = letters.as_ref().unwrap_or(&of_triples);
         let share = |from: usize| -> Vec<Found> {
             let names = names.iter().skip(from).step_by(processors);
-            names.map(|(name, means)| ask_edits(&words, kind, letters, name, means)).collect()
+            names.map(|(name, means)| ask_edits(&words, kind, letters, name, means, of)).collect()
         };
         let found: Vec<Found> = thread::scope(|scope| {
             let share = &share;
