@@ -1,12 +1,12 @@
 -- The answers to the lines of an input, one after another.
-use Rattle.std.proofs.{Common.OnOk, lemmas.List.Folds.list_any-append, lemmas.Map.Text.hash_set_updates_text}
-use Rattle.std.specs.{HashSet.IsEmpty, HashSet.UpdatesBy, HashSet.contains_text, String.string_bytes, String.string_eq}
-use Rattle.target_lexicon.specs.{Parsing.IsErrorOf, declared.parse_error.ParseError.ParseError}
-use Rattle.triples.proofs.Common.{IsLineOutput, IsRefusedAs, List, Ok, ParsesAs, Refusal, Result, Shown, Values, []}
-use Rattle.triples.proofs.Common.{answer_bytes, ap, append-nil, append_assoc, bytes_eq, canonical_string, false}
+use Rattle.triples.proofs.Common.{arith, common_steps, IsLineOutput, IsRefusedAs, List, Ok, ParsesAs, Refusal, Result}
+use Rattle.triples.proofs.Common.{Shown, Values, [], ap, append-nil, append_assoc, bytes_eq, canonical_string, false}
 use Rattle.triples.proofs.Common.{if◌then◌else◌, ◌++◌, ◌||◌, ◌∙◌, ◌∷◌, ◌≡◌, Answer, AreAnswers, Bool, Err, IsAnswer}
 use Rattle.triples.proofs.Common.{is_kept_after, kept_answers, line_feed, list_any, matrix_of, or-false, refl, rules}
 use Rattle.triples.proofs.Common.{shows, sym, true, written_lines, ℕ}
+use Rattle.std.proofs.{Common.OnOk, lemmas.List.Folds.list_any-append, lemmas.Map.Text.hash_set_updates_text}
+use Rattle.std.specs.{HashSet.IsEmpty, HashSet.UpdatesBy, HashSet.contains_text, String.string_bytes, String.string_eq}
+use Rattle.target_lexicon.specs.{Parsing.IsErrorOf, declared.parse_error.ParseError.ParseError}
 use Rattle.triples.specs.Output.{IsMatrix}
 use Rattle.triples.specs.Private.{AddsAnswer, AddsEntry, AddsRefusal, HasOneMore, Seen, is_repeated, refused_answer}
 
@@ -53,9 +53,7 @@ if_stays stays line = if stays then line ∷ [] else []
 pub staying-push : (before lines : List Answer) (line : Answer)
     → kept_answers before (lines ++ line ∷ []) ≡ kept_answers before lines ++ if_stays
     (is_kept_after (before ++ lines) line) line
-staying-push before [] line =
-    append-nil (if_stays (is_kept_after before line) line)
-    ∙ ap (λ (t : List Answer). if_stays (is_kept_after t line) line) (sym (append-nil before))
+staying-push before [] line = search (rules, append-nil)
 staying-push before (first ∷ lines) line =
     ap (λ (t : List Answer). if_stays (is_kept_after before first) first ++ t)
     (staying-push (before ++ first ∷ []) lines line
@@ -65,9 +63,7 @@ staying-push before (first ∷ lines) line =
 
 pub written_lines-append : (xs ys : List Answer) → written_lines (xs ++ ys) ≡ written_lines xs ++ written_lines ys
 written_lines-append [] ys = refl
-written_lines-append (x ∷ xs) ys =
-    ap (λ (t : List ℕ). answer_bytes x ++ (line_feed ∷ t)) (written_lines-append xs ys)
-    ∙ sym (append_assoc (answer_bytes x) (line_feed ∷ written_lines xs) (written_lines ys))
+written_lines-append (x ∷ xs) ys = grind (arith, common_steps, append_assoc, written_lines-append xs ys)
 
 repeated-stays : (before : List Answer) (seen : Seen) (answer : Answer)
     → ((text : List ℕ) → contains_text seen text ≡ list_any (shows text) before)

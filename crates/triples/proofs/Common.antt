@@ -18,30 +18,30 @@ pub use Rattle.target_lexicon.specs.Json.{Element, ElementsParseAs, IsFirstError
 pub use Rattle.target_lexicon.specs.Json.{JsonParsesAs, NotText, Parse, list_error_line, list_json_of}
 pub use Rattle.target_lexicon.specs.{FixedPoints.canonical_string, Laws.EveryStringHasOneOutcome, Parsing.IsRefusedAs}
 pub use Rattle.target_lexicon.specs.{Parsing.ParsesAs, Printing.string_of, Refusal.Refusal, Refusal.refusal_line}
-pub use Rattle.target_lexicon.specs.{Values.Values, Values.values_of, ValuesRef.values_of_ref}
+pub use Rattle.target_lexicon.specs.{Values.Values, Values.values_of}
 pub use Rattle.triples.specs.Calls.{After, Call, Ended, Failed, Flushed, Moved, bytes_of, ends_last, failures_in}
 pub use Rattle.triples.specs.Calls.{stops_in}
 pub use Rattle.triples.specs.Filter.{AreFilterAnswers, IsFilterAnswer, complete_lines, not_utf8, too_long}
 pub use Rattle.triples.specs.FilterSteps.{AnswersLines, AnswersRest, HasNoFeed, IsFilteredTo, IsKept, IsLate}
 pub use Rattle.triples.specs.FilterSteps.{RestAnswered}
 pub use Rattle.triples.specs.Lines.{ended_lines_of, line_feed, lines_of, parts_without_empty_last}
-pub use Rattle.triples.specs.Output.{Answer, AreAnswers, IsAnswer, IsLineOutput, IsOutput, Refused, Shown, answer_bytes}
-pub use Rattle.triples.specs.Output.{is_kept_after, kept_answers, matrix_of, shown_by, shows, written_lines}
+pub use Rattle.triples.specs.Output.{Answer, AreAnswers, IsAnswer, IsLineOutput, IsOutput, Refused, Shown}
+pub use Rattle.triples.specs.Output.{answer_bytes, is_kept_after, kept_answers, matrix_of, shown_by, shows}
+pub use Rattle.triples.specs.Output.{written_lines}
 pub use Rattle.triples.specs.Run.{Gives, HasFailed, IsReadWhole, IsUnfailed, OnlyMoves, RunEnds, StopsLast, StopsOnce}
 pub use Rattle.triples.specs.Run.{Takes, TakesBeginning, Use, use_of}
 pub use Rattle.triples.specs.declared.mode.Mode.TheVariants.{Json, Matrix, Print, Settle, Show}
 pub use Rattle.triples.specs.{Facts.facts_of, Facts.text_with_facts, JsonOutput.IsJsonAnswer}
 pub use Rattle.triples.specs.{JsonOutput.IsJsonInputErrorOf, RunLaws.IsWritten, RunLaws.RunGives}
 pub use Rattle.triples.specs.{declared.filter_error.FilterError.FilterError, declared.line_mode.LineMode.LineMode}
-pub use Rattle.triples.specs.{declared.mode.Mode.Mode, declared.run_error.RunError.RunError, declared.trace.Trace.Trace}
-pub use base.{Fml.flft, Fml.ftrue, Logic.emp, Logic.fst∗, Logic.via}
+pub use Rattle.triples.specs.{declared.mode.Mode.Mode, declared.run_error.RunError.RunError}
+pub use Rattle.triples.specs.{declared.trace.Trace.Trace}
+pub use base.{Logic.emp, Logic.fst∗, Logic.via}
 pub use borrow.Rule.Slice.PartMut.{put_mid}
 pub use contract.Running.{tables}
-pub use denote.Triple.Walked.{Goes-ref, Stays, ends_at, says, stay_ref, walk_of}
-pub use denote.{Exit.yes, RattleType.owns, Ref.MutRef, Ref.mut_Tells, Ref.mut_vals, Shadow.pure_i, Signature.plain}
-pub use denote.{Steps.closes, Steps.opens, Triple.Entry.alive}
-pub use mir.{Syntax.named, Val.Val, Val.vnil, Val.vstruct, Val.vunit}
-pub use types.Kit.{ !, done, feq_i, frame, fsplit3, join, keep, move, qed, raw, split, suffices}
-pub use types.Kit.{‵, ◌$◌, ◌∵◌, ◌⊛◌}
+pub use denote.Triple.Walked.{Stays, ends_at, says, walk_of}
+pub use denote.{Exit.yes, RattleType.owns, Shadow.pure_i, Signature.plain, Triple.Entry.alive}
+pub use mir.{Syntax.named, Val.Val, Val.vnil, Val.vstruct}
+pub use types.Kit.{ !, done, move, qed, raw, suffices, ‵, ◌$◌, ◌∵◌}
 pub use types.{ByLocal.alloc_all, ByLocal.free_all, ByLocal.look_at, ByLocal.pass_all, ByLocal.sets, Part.agg}
-pub use types.{Run.enter, Run.no_more, Run.of_opd, Run.returns, Run.unit_lit}
+pub use types.{Run.enter, Run.no_more, Run.returns}

@@ -1,15 +1,14 @@
 -- The laws of what a filter writes and how it ends.
 use Rattle.triples.proofs.Common.{AreFilterAnswers, Bool, EveryStringHasOneOutcome, FilterError, IsAnswer}
 use Rattle.triples.proofs.Common.{IsFilterAnswer, IsLineOutput, IsOutput, IsUtf8, IsUtf8-from_is_utf8, LineMode, List}
-use Rattle.triples.proofs.Common.{Ok, Refused, Result, Shown, Takes, Use, [], ap, arith, cases_lt, codes, false, inl}
-use Rattle.triples.proofs.Common.{inr, is_utf8, is_utf8-from_IsUtf8, length, lines_of, not_utf8, refl, refusal_line}
-use Rattle.triples.proofs.Common.{rules, shown_by, sym, too_long, true, written_lines, ℕ}
-use Rattle.triples.proofs.Common.{◌++◌, ◌-◌, ◌<◌, ◌^◌, ◌↔◌, ◌∙◌, ◌∷◌, ◌≡◌, AllByRecursion, AllZip, Answer}
-use Rattle.triples.proofs.UniqueOutputs.{answer-unique, zip-some, zip-unique}
-use Rattle.triples.proofs.{LineLemmas.lines-utf8, UseLemmas.input-is, UseLemmas.input-within, UseLemmas.not-both}
+use Rattle.triples.proofs.Common.{Ok, Result, Takes, Use, ap, arith, cases_lt, false, inl, inr, is_utf8, length}
+use Rattle.triples.proofs.Common.{lines_of, not_utf8, refl, rules, shown_by, sym, too_long, true, written_lines, ℕ}
+use Rattle.triples.proofs.Common.{◌-◌, ◌<◌, ◌^◌, ◌↔◌, ◌∙◌, ◌∷◌, ◌≡◌, AllByRecursion, AllZip, Answer}
+use Rattle.triples.proofs.UniqueOutputs.{answer-some, answer-unique, zip-some, zip-unique}
+use Rattle.triples.proofs.{LineLemmas.lines-utf8, LineLemmas.not-utf8, UseLemmas.input-is, UseLemmas.input-within}
+use Rattle.triples.proofs.{UseLemmas.not-both}
 use Rattle.triples.specs.Filter.{FilterEnds}
-use Rattle.triples.specs.FilterLaws.{ErrorsOfFiltersAreExact, EveryInputIsFiltered, FilterGives, FiltersAgreeWithRuns}
-use Rattle.triples.specs.FilterLaws.{FiltersEndOneWay, HasExactFilterErrors, run_mode}
+use Rattle.triples.specs.FilterLaws.{EveryInputIsFiltered, FilterGives, FiltersAgreeWithRuns, run_mode}
 
 -- the one answer to a line
 record OneAnswer (mode : LineMode) (size : ℕ) (line : List ℕ) : Type 0 where
@@ -30,20 +29,13 @@ module _ (one : EveryStringHasOneOutcome) (mode : LineMode) (size : ℕ) where
 
   short-answer : (line : List ℕ) (b : Bool) → is_utf8 line ≡ b → length line < size → OneAnswer mode size line
   short-answer line true is less =
-      let utf8 = IsUtf8-from_is_utf8 line is in
-      elim ((one line).some) [
-        | inl read ↦ shows line (Shown (shown_by mode read.0)) less utf8 (read.0, read.1, refl)
-        | inr refused ↦ shows line (Refused (codes "error: " ++ refusal_line refused.0)) less utf8
-            (refused.0, refused.1, refl)
-      ]
-  short-answer line false is less =
-      let differs : IsUtf8 line → ⊥ = λ utf8. let bad : false ≡ true = sym is ∙ is_utf8-from_IsUtf8 line utf8 in
-      absurd cc in
-      record {
-        answer = not_utf8;
-        is = fitting-answer mode size line not_utf8 less (λ _. refl) (λ utf8. absurd (differs utf8));
-        only = λ other it. it.other less differs;
-      }
+      let found = answer-some one (shown_by mode) line in
+      shows line found.0 less (IsUtf8-from_is_utf8 line is) found.1
+  short-answer line false is less = record {
+    answer = not_utf8;
+    is = fitting-answer mode size line not_utf8 less (λ _. refl) (λ utf8. absurd (not-utf8 line is utf8));
+    only = λ other it. it.other less (not-utf8 line is);
+  }
 
   one-answer : (line : List ℕ) → OneAnswer mode size line
   one-answer line = elim (cases_lt (length line) size) [
@@ -77,10 +69,8 @@ every_input_is_filtered one mode size lines =
 -- partners by another relation, where the elements have two properties
 zip-map : {A B : Type 0} {R S : A → B → Type 0} {P Q : A → Type 0} → ((a : A) (b : B) → P a → Q a → R a b → S a b)
     → (us : List A) (bs : List B) → AllByRecursion P us → AllByRecursion Q us → AllZip R us bs → AllZip S us bs
-zip-map to [] [] p q are = tt
-zip-map to [] (b ∷ bs) p q are = absurd are
-zip-map to (a ∷ us) [] p q are = absurd are
 zip-map to (a ∷ us) (b ∷ bs) p q are = (to a b p.0 q.0 are.0, zip-map to us bs p.1 q.1 are.1)
+zip-map to _ _ p q are = search rules
 
 -- the run of the same name
 as-run : (mode : LineMode) (input output : List ℕ)
@@ -107,19 +97,8 @@ filters_agree_with_runs mode size input output utf8 short =
       )),
     )
 
-failures-exact : (reader writer : Use) (input answers output : List ℕ) (result : Result (Unit {0}) FilterError)
-    → FilterEnds reader writer input answers output result → HasExactFilterErrors reader writer result
-failures-exact reader writer input answers output result ends = search rules
-
-pub errors_of_filters_are_exact : ErrorsOfFiltersAreExact
-errors_of_filters_are_exact mode size reader writer result ends = search rules
-
 module _ (mode : LineMode) (size : ℕ) (input : List ℕ) (writer : Use) (fewer : length input < 2 ^ 64 - 1) where
-  end-one-way : (result : Result (Unit {0}) FilterError) (run : FilterGives mode size input writer result)
+  pub end-one-way : (result : Result (Unit {0}) FilterError) (run : FilterGives mode size input writer result)
       → FilterEnds run.reader writer run.ends.input run.ends.answers run.ends.output result
       → (result ≡ Ok tt) × (output : List ℕ) × AreFilterAnswers mode size (lines_of input) output × Takes writer output
   end-one-way result run ends = search (rules, input-is, not-both, input-within)
-
-pub filters_end_one_way : FiltersEndOneWay
-filters_end_one_way mode size input writer result fewer run =
-    end-one-way mode size input writer fewer result run run.ends.by_result

@@ -10,11 +10,15 @@ use Rattle.triples.proofs.Common.{Option, ParsesAs, Refusal, Refused, Shown, Som
 use Rattle.triples.proofs.Common.{append_assoc, arith, codes, common_steps, drop, ended_lines_of, facts_of, false, inl}
 use Rattle.triples.proofs.Common.{inr, length, length-append, length-drop, length-slice_split, length-take, line_feed}
 use Rattle.triples.proofs.Common.{lines_of, parts_without_empty_last, refl, refusal_line, rules, shown_by, slice_split}
-use Rattle.triples.proofs.Common.{slice_split_at, slice_split_none, subst, sym, take, take_all, written_lines, ℕ}
-use Rattle.triples.proofs.Common.{◌++◌, ◌+◌, ◌-◌, ◌<◌, ◌==◌, ◌∙◌, ◌∷◌, ◌≡◌, ◌≤◌, ◌⊎◌, AllByRecursion, AllZip, Answer}
+use Rattle.triples.proofs.Common.{slice_split_at, slice_split_none, subst, sym, take, take_all, written_lines, ℕ, ◌++◌}
+use Rattle.triples.proofs.Common.{◌+◌, ◌-◌, ◌<◌, ◌==◌, ◌∙◌, ◌∷◌, ◌≡◌, ◌≤◌, ◌⊎◌, AllByRecursion, AllZip, Answer, Err}
+use Rattle.triples.proofs.Common.{HasFailed, IsUnfailed, OnlyMoves, StopsLast, Takes, TakesBeginning}
 use Rattle.triples.proofs.FilterLawLemmas.{every_input_is_filtered, fitting-answer}
 use Rattle.triples.proofs.{AnswerLemmas.written_lines-append, LineLemmas.stays-first}
-use Rattle.triples.specs.FilterSteps.{IsLineAnswer, IsLineEnd, IsShortAnswer, Pushes, PushesAnswer, with_feeds}
+use Rattle.triples.proofs.UseLemmas.{State, from_to, takes-part}
+use Rattle.triples.specs.FilterSteps.{LinesAnswered, IsLineAnswer, IsLineEnd, IsShortAnswer, Pushes, PushesAnswer}
+use Rattle.triples.specs.FilterSteps.{with_feeds}
+use Rattle.triples.specs.declared.filter_error.FilterError.TheVariants as filter_error
 use Rattle.triples.specs.{Facts.spaced_word, Lines.parts_without_last}
 
 -- a text after another in a buffer
@@ -80,10 +84,9 @@ no-bytes k d below = absurd (omega (arith, below))
 -- lists of lines
 zip-append : {A B : Type 0} (R : A → B → Type 0) (xs us : List A) (ys vs : List B) → AllZip R xs ys → AllZip R us vs
     → AllZip R (xs ++ us) (ys ++ vs)
-zip-append R [] us [] vs all is = is
-zip-append R [] us (b ∷ ys) vs all is = absurd all
-zip-append R (a ∷ xs) us [] vs all is = absurd all
 zip-append R (a ∷ xs) us (b ∷ ys) vs all is = (all.0, zip-append R xs us ys vs all.1 is)
+zip-append R [] us [] vs all is = is
+zip-append R _ us _ vs all is = search rules
 
 each-append : {A : Type 0} (P : A → Type 0) (xs ys : List A) → AllByRecursion P xs → AllByRecursion P ys
     → AllByRecursion P (xs ++ ys)
@@ -91,9 +94,12 @@ each-append P xs ys all is = grind (arith, common_steps)
 
 feeds-append : (xs ys : List (List ℕ)) → with_feeds (xs ++ ys) ≡ with_feeds xs ++ with_feeds ys
 feeds-append [] ys = refl
-feeds-append (x ∷ xs) ys =
-    ap (λ (t : List ℕ). x ++ (line_feed ∷ t)) (feeds-append xs ys)
-    ∙ sym (append_assoc x (line_feed ∷ with_feeds xs) (with_feeds ys))
+feeds-append (x ∷ xs) ys = grind (arith, common_steps, append_assoc, feeds-append xs ys)
+
+answers-append : (mode : LineMode) (size : ℕ) (xs us : List (List ℕ)) (ys vs : List ℕ)
+    → AreFilterAnswers mode size xs ys → AreFilterAnswers mode size us vs
+    → AreFilterAnswers mode size (xs ++ us) (ys ++ vs)
+answers-append mode size xs us ys vs are more = search (rules, zip-append, written_lines-append)
 
 module _ (mode : LineMode) (size : ℕ) where
   pub filtered-none : (bytes : List ℕ) → IsFilteredTo mode size bytes bytes []
@@ -104,7 +110,7 @@ module _ (mode : LineMode) (size : ℕ) where
       → IsFilteredTo mode size mid rest next
       → IsFilteredTo mode size bytes rest (first ++ next)
   filtered-then bytes mid rest first next a b =
-      search (rules, append_assoc, feeds-append, each-append, zip-append, written_lines-append)
+      search (rules, append_assoc, feeds-append, each-append, answers-append)
 
   -- one line
   pub filtered-line : (line rest : List ℕ) (answer : Answer) → HasNoFeed line → IsFilterAnswer mode size line answer
@@ -137,9 +143,13 @@ module _ (f : List (List ℕ) → List (List ℕ))
       ∙ first line (split more) (omega (arith, length-slice_split (λ b. b == line_feed) more))
       ∙ ap (λ (t : List (List ℕ)). line ∷ t) (parts-ended lines rest each.1)
 
-lines-ended : (lines : List (List ℕ)) (rest : List ℕ) → AllByRecursion HasNoFeed lines
-    → lines_of (with_feeds lines ++ rest) ≡ lines ++ lines_of rest
-lines-ended = parts-ended parts_without_empty_last (λ part parts some. stays-first part parts (omega (arith, some)))
+  -- the answers to the lines so far, and to those of the rest
+  lines-answered : (mode : LineMode) (size : ℕ) (bytes rest output more : List ℕ)
+      → IsFilteredTo mode size bytes rest output → AreFilterAnswers mode size (f (split rest)) more
+      → AreFilterAnswers mode size (f (split bytes)) (output ++ more)
+  lines-answered mode size bytes rest output more far are =
+      rw (far.whole, parts-ended far.lines rest far.each)
+      (answers-append mode size far.lines (f (split rest)) output more far.answered are)
 
 lines-last : (rest : List ℕ) → HasNoFeed rest → 0 < length rest → lines_of rest ≡ rest ∷ []
 lines-last rest none some = search (rules, slice_split_none)
@@ -151,60 +161,39 @@ without-last-first part parts some = search rules
 ended-none : (rest : List ℕ) → HasNoFeed rest → ended_lines_of rest ≡ []
 ended-none rest none = ap parts_without_last (slice_split_none (λ b. b == line_feed) rest none)
 
-module _ (mode : LineMode) (size : ℕ) where
+module _ (mode : LineMode) (size : ℕ) (bytes rest output : List ℕ)
+    (far : IsFilteredTo mode size bytes rest output) where
   -- the lines that have ended were answered
-  pub filtered-so-far : (bytes rest output : List ℕ) → IsFilteredTo mode size bytes rest output → HasNoFeed rest
-      → AreFilterAnswers mode size (ended_lines_of bytes) output
-  filtered-so-far bytes rest output far none =
-      let lines : ended_lines_of bytes ≡ far.lines =
-      ap ended_lines_of far.whole ∙ parts-ended parts_without_last without-last-first far.lines rest far.each
-      ∙ ap (λ (t : List (List ℕ)). far.lines ++ t) (ended-none rest none) ∙ append-nil far.lines in
-      subst (λ (t : List (List ℕ)). AreFilterAnswers mode size t output) (sym lines) far.answered
+  pub filtered-so-far : HasNoFeed rest → AreFilterAnswers mode size (ended_lines_of bytes) output
+  filtered-so-far none =
+      rw append-nil at (lines-answered parts_without_last without-last-first mode size bytes rest output [] far
+      (rw (ended-none rest none) ([], tt, refl)))
 
   -- what was answered is a beginning of the answers to all lines that have ended
-  pub filtered-part : EveryStringHasOneOutcome → (bytes rest output : List ℕ) → IsFilteredTo mode size bytes rest output
+  pub filtered-part : EveryStringHasOneOutcome
       → (answers : List ℕ) × AreFilterAnswers mode size (ended_lines_of bytes) answers × (more : List ℕ)
       × (answers ≡ output ++ more)
-  filtered-part one bytes rest output far =
+  filtered-part one =
       let others = every_input_is_filtered one mode size (ended_lines_of rest) in
-      let lines : ended_lines_of bytes ≡ far.lines ++ ended_lines_of rest = ap ended_lines_of far.whole
-      ∙ parts-ended parts_without_last without-last-first far.lines rest far.each in (
-        output ++ others.output,
-        subst (λ (t : List (List ℕ)). AreFilterAnswers mode size t (output ++ others.output)) (sym lines) (
-          far.answered.0 ++ others.is.0,
-          zip-append (IsFilterAnswer mode size) far.lines (ended_lines_of rest) far.answered.0 others.is.0
-              far.answered.1 others.is.1,
-          ap (λ (t : List ℕ). t ++ others.output) far.answered.2
-              ∙ ap (λ (t : List ℕ). written_lines far.answered.0 ++ t) others.is.2
-              ∙ sym (written_lines-append far.answered.0 others.is.0),
-        ),
-        others.output,
-        refl,
-      )
+      let are = lines-answered parts_without_last without-last-first mode size bytes rest output others.output far
+      others.is in
+      (output ++ others.output, are, others.output, refl)
+
+  with-rest : (last : List ℕ) → AreFilterAnswers mode size (lines_of rest) last
+      → AreFilterAnswers mode size (lines_of bytes) (output ++ last)
+  with-rest last are =
+      lines-answered parts_without_empty_last (λ part parts some. stays-first part parts (omega (arith, some)))
+      mode size bytes rest output last far are
 
   -- all lines were answered: there is no rest, or its answer is written too
-  pub filtered-end : (bytes rest output last : List ℕ) → IsFilteredTo mode size bytes rest output → HasNoFeed rest
+  pub filtered-end : (last : List ℕ) → HasNoFeed rest
       → ((rest ≡ []) × (last ≡ []))
       ⊎ ((0 < length rest) × (answer : Answer) × IsFilterAnswer mode size rest answer
       × (last ≡ written_lines (answer ∷ [])))
       → AreFilterAnswers mode size (lines_of bytes) (output ++ last)
-  filtered-end bytes rest output last far none (inl end) =
-      let lines : lines_of bytes ≡ far.lines = ap lines_of far.whole ∙ lines-ended far.lines rest far.each
-      ∙ ap (λ (t : List ℕ). far.lines ++ lines_of t) end.0 ∙ append-nil far.lines in
-      subst (λ (t : List (List ℕ)). AreFilterAnswers mode size t (output ++ last)) (sym lines)
-      (subst (λ (t : List ℕ). AreFilterAnswers mode size far.lines t)
-      (sym (ap (λ (t : List ℕ). output ++ t) end.1 ∙ append-nil output)) far.answered)
-  filtered-end bytes rest output last far none (inr end) =
-      let lines : lines_of bytes ≡ far.lines ++ rest ∷ [] =
-      ap lines_of far.whole ∙ lines-ended far.lines rest far.each
-      ∙ ap (λ (t : List (List ℕ)). far.lines ++ t) (lines-last rest none end.0) in
-      subst (λ (t : List (List ℕ)). AreFilterAnswers mode size t (output ++ last)) (sym lines) (
-        far.answered.0 ++ end.1 ∷ [],
-        zip-append (IsFilterAnswer mode size) far.lines (rest ∷ []) far.answered.0 (end.1 ∷ []) far.answered.1
-            (end.2, tt),
-        ap (λ (t : List ℕ). t ++ last) far.answered.2 ∙ ap (λ (t : List ℕ). written_lines far.answered.0 ++ t) end.3
-            ∙ sym (written_lines-append far.answered.0 (end.1 ∷ [])),
-      )
+  filtered-end last none (inl end) = with-rest last (rw (end.0, end.1) ([], tt, refl))
+  filtered-end last none (inr end) =
+      with-rest last (rw (lines-last rest none end.0) (end.1 ∷ [], (end.2, tt), end.3))
 
 -- the answer to a line of which a part came before
 line-answer : (mode : LineMode) (late : Bool) (size : ℕ) (before line : List ℕ) (answer : Answer)
@@ -252,12 +241,7 @@ rest-answered mode late bytes answer some is = search (rules, late-some, line-an
 pub used-more : (gone more written old new : List ℕ) (used now end : ℕ) → more ++ take now old ≡ take used old
     → take end new ≡ take now old ++ written
     → (gone ++ more) ++ take end new ≡ (gone ++ take used old) ++ written
-used-more gone more written old new used now end room pushed =
-    ap (λ (t : List ℕ). (gone ++ more) ++ t) pushed
-    ∙ append_assoc gone more (take now old ++ written)
-    ∙ ap (λ (t : List ℕ). gone ++ t)
-    (sym (append_assoc more (take now old) written) ∙ ap (λ (t : List ℕ). t ++ written) room)
-    ∙ sym (append_assoc gone (take used old) written)
+used-more gone more written old new used now end room pushed = grind (arith, common_steps, append_assoc)
 
 -- a slice from an index to the end
 pub rest-of : (bytes : List ℕ) (start : ℕ) → take (length bytes - start) (drop start bytes) ≡ drop start bytes
@@ -291,3 +275,21 @@ line-step mode late late_then bytes start at gone more old new used free end far
 pub pushed-within : (text old new : List ℕ) (at end : ℕ) → at ≤ length old → Pushes text old at new end
     → end ≤ length new
 pushed-within text old new at end within pushed = grind (arith, common_steps)
+
+-- what was used of the buffer was not written whole, after what has gone
+pub lines-failed : (mode : LineMode) (late late_after : Bool) (bytes rest gone used : List ℕ) {a b c : State}
+    → AnswersLines mode late bytes late_after rest (gone ++ used) → IsUnfailed (from_to a b) → OnlyMoves (from_to a b)
+    → Takes (from_to a b) gone → HasFailed (from_to b c) → TakesBeginning (from_to b c) used → StopsLast (from_to b c)
+    → LinesAnswered mode late bytes (from_to a c) (Err filter_error.Write)
+lines-failed mode late late_after bytes rest gone used answered unfailed moves takes failed begun last =
+    let part = takes-part used takes begun in (
+      refl,
+      omega (arith, failed, unfailed),
+      gone ++ used,
+      late_after,
+      rest,
+      answered,
+      part.0,
+      part.1,
+      (omega (arith, last.0, moves), last.1),
+    )

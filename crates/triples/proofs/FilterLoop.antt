@@ -2,12 +2,13 @@
 use Rattle.std.proofs.KnownBytes.{Consumes-kept, Consumes-nil}
 use Rattle.std.proofs.lemmas.List.{places, take-append-le}
 use Rattle.triples.proofs.Common
-use Common.{AnswersRest, Consumes, FilterError, RestAnswered, append_assoc, common_steps, ended_lines_of, length-append}
-use Common.{AreFilterAnswers, EveryStringHasOneOutcome, IsFilteredTo, complete_lines, take-append-add, take-append_seam}
-use Common.{Failed, IsAtEnd, IsKept, IsLate, LineMode, Result, bytes_of, ends_last, length, ne_eqb, put_mid, stops_in}
-use Common.{HasNoFeed, IsUnfailed, OnlyMoves, StopsLast, StopsOnce, append-nil, failures_in, length-drop, length-take}
-use Common.{◌++◌, After, Bool, Call, Ended, Gives, Keeps, List, Moved, Takes, arith, drop, false, refl, rules, subst, ℕ}
-use Common.{◌+◌, ◌-◌, ◌<◌, ◌^◌, ◌∙◌, ◌∷◌, ◌≡◌, ◌≤◌, ◌⊎◌, Err, Ok, Use, [], ap, inl, inr, sym, take, true}
+use Common.{AnswersRest, Consumes, FilterError, RestAnswered, append_assoc, common_steps, ended_lines_of}
+use Common.{length-append, AreFilterAnswers, EveryStringHasOneOutcome, IsFilteredTo, complete_lines, take-append-add}
+use Common.{take-append_seam, Failed, IsAtEnd, IsKept, IsLate, LineMode, Result, bytes_of, ends_last, length, ne_eqb}
+use Common.{put_mid, stops_in, HasNoFeed, IsUnfailed, OnlyMoves, StopsLast, StopsOnce, append-nil, failures_in}
+use Common.{length-drop, length-take, ◌++◌, After, Bool, Call, Ended, Gives, Keeps, List, Moved, Takes, arith, drop}
+use Common.{false, refl, rules, subst, ℕ, ◌+◌, ◌-◌, ◌<◌, ◌^◌, ◌∙◌, ◌∷◌, ◌≡◌, ◌≤◌, ◌⊎◌, Err, Ok, Use, [], ap, inl, inr}
+use Common.{sym, take, true}
 use Rattle.triples.proofs.FilterLemmas.{filtered-end, filtered-more, filtered-none, filtered-part, filtered-so-far}
 use Rattle.triples.proofs.FilterLemmas.{filtered-then, late-no-feed, no-bytes}
 use Rattle.triples.proofs.UseLemmas.{State, from_to, takes-none, takes-part, takes-then}
@@ -93,7 +94,7 @@ between-kept {mode} {size} {late} {rest} {input} {written} {count} late_after ne
       none = no-bytes;
     })
 between-kept {mode} {size} {late} {rest} {input} {written} {count} late_after new held (inr kept) state =
-    rw (kept.0 ∙ sym kept.1, kept.2) state
+    search (rules, common_steps)
 
 module _ {mode : LineMode} {size count : ℕ} {late : Bool} {held : List ℕ} {r0 r1 w0 w1 : State}
     (state : IsBetweenReads mode size late held (from_to r0 r1) (from_to w0 w1) count) where
@@ -139,18 +140,7 @@ module _ {mode : LineMode} {size count : ℕ} {late : Bool} {held : List ℕ} {r
         → StopsOnce (from_to r0 r2) → StopsOnce (from_to w0 w)
         → FilterEnds (from_to r0 r2) (from_to w0 w) (state.answered.bytes ++ bytes_in call) answers output result
         → FilterEndsAs mode size (from_to r0 r2) (from_to w0 w) result
-    ends {output} answers takes answered reads writes by_result = record {
-      input = state.answered.bytes ++ bytes_in call;
-      answers = answers;
-      output = output;
-      gives = given-more;
-      takes = takes;
-      answered = rw (ap ends_last is) answered;
-      by_result = by_result;
-      reads = reads;
-      writes = writes;
-      prompt = (more-reads.0, more-reads.1, more-reads.3);
-    }
+    ends {output} answers takes answered reads writes by_result = search (rules, common_steps, given-more, more-reads)
 
   -- a read that failed
   pub ends-read : {r2 : State} → Keeps r1.bytes r2.bytes → r2.calls ≡ Failed ∷ (After (bytes_of w1.calls) ∷ r1.calls)
@@ -167,8 +157,8 @@ module _ {mode : LineMode} {size count : ℕ} {late : Bool} {held : List ℕ} {r
       → AreFilterAnswers mode size (complete_lines true (state.answered.bytes ++ [])) (state.answered.output ++ last)
   whole {last} short answers =
       rw (append-nil state.answered.bytes)
-      (filtered-end mode size state.answered.bytes (state.before ++ held) state.answered.output last
-      state.answered.filtered free (answers.rest size state.before short state.is_late))
+      (filtered-end mode size state.answered.bytes (state.before ++ held) state.answered.output
+      state.answered.filtered last free (answers.rest size state.before short state.is_late))
 
   module _ {r2 w2 : State} (known : Consumes r1.bytes r2.bytes [])
       (is : r2.calls ≡ Ended ∷ (After (bytes_of w1.calls) ∷ r1.calls)) (at_end : IsAtEnd r2.bytes)
@@ -241,7 +231,7 @@ module _ {mode : LineMode} {size count : ℕ} {late : Bool} {held : List ℕ} {r
         let written = it.output ++ done.2 in
         let so_far = filtered-then mode size (it.bytes ++ more) (state.before ++ piece) (next.0 ++ done.4)
         it.output done.2 (far more piece holds) next.1 in
-        let all = filtered-part mode size one (it.bytes ++ more) (next.0 ++ done.4) written so_far in
+        let all = filtered-part mode size (it.bytes ++ more) (next.0 ++ done.4) written so_far one in
         ends r2 (Moved more) known is all.0 part.1 all.1 (inl (omega (arith, stops r2 (Moved more) known is)))
         (inr (omega (arith, done.8.0, it.only_writes), done.8.1)) (
           omega (arith, failures r2 (Moved more) known is),

@@ -2,8 +2,8 @@
 use Rattle.serde_json.proofs.OnLiterals.{serde_json_on_literals}
 use Rattle.serde_json.specs.{View.items_of, Written.items_have_float}
 use Rattle.target_lexicon.specs.Json.{json_of}
-use Rattle.triples.proofs.Common.{arith, false, length, map, read, refl, rules, ℕ}
-use Rattle.triples.proofs.Common.{◌<◌, ◌∷◌, ◌≡◌, Data, IsJsonInputErrorOf, List, None, RunError, Some, Values, []}
+use Rattle.triples.proofs.Common.{arith, false, length, map, read, refl, rules, ℕ, ◌<◌, ◌∷◌, ◌≡◌, Data}
+use Rattle.triples.proofs.Common.{IsJsonInputErrorOf, List, None, RunError, Some, Values, []}
 use Rattle.triples.specs.JsonOutput.{IsJsonAnswerErrorOf}
 
 -- a list of strings has no floating-point number

@@ -6,12 +6,12 @@ use Rattle.std.proofs.{Math.Seq.drop-append-add, Math.Seq.get_or-append_seam, le
 use Rattle.std.proofs.{lemmas.List.Splits.join_with_byte-slice_split, lemmas.Str.Pattern.NoCharPasses-char}
 use Rattle.std.specs.{List.All, List.join_with_byte, Str.IsAscii, Str.Iter.split_has_more, Str.Pattern.FindsChar}
 use Rattle.std.specs.{Str.Iter.split_terminator_steps, Str.NoCharPasses, declared.str.SplitTerminator.SplitTerminator}
-use Rattle.triples.proofs.Common.{List, MatchOption, None, Option, Some, [], ap, arith, drop, false, get_or, length}
-use Rattle.triples.proofs.Common.{if◌then◌else◌, ◌++◌, ◌+◌, ◌<◌, ◌==◌, ◌∙◌, ◌∷◌, ◌≡◌, AllByRecursion, Bool, IsUtf8}
-use Rattle.triples.proofs.Common.{length-append, length-slice_split, line_feed, lines_of, ne_eqb}
-use Rattle.triples.proofs.Common.{parts_without_empty_last, refl, rules, slice_split, slice_split_at, slice_split_none}
-use Rattle.triples.proofs.Common.{split_terminator_parts, split_terminator_pattern, split_text, subst, sym, take}
-use Rattle.triples.proofs.Common.{take-append-drop, take-append_seam, true, ℕ}
+use Rattle.triples.proofs.Common.{is_utf8, is_utf8-from_IsUtf8, List, MatchOption, None, Option, Some, [], ap, arith}
+use Rattle.triples.proofs.Common.{drop, false, get_or, length, if◌then◌else◌, ◌++◌, ◌+◌, ◌<◌, ◌==◌, ◌∙◌, ◌∷◌, ◌≡◌}
+use Rattle.triples.proofs.Common.{AllByRecursion, Bool, IsUtf8, length-append, length-slice_split, line_feed, lines_of}
+use Rattle.triples.proofs.Common.{ne_eqb, parts_without_empty_last, refl, rules, slice_split, slice_split_at}
+use Rattle.triples.proofs.Common.{slice_split_none, split_terminator_parts, split_terminator_pattern, split_text}
+use Rattle.triples.proofs.Common.{subst, sym, take, take-append-drop, take-append_seam, true, ℕ}
 
 abbrev is_line_feed : ℕ → Bool
 is_line_feed b = b == line_feed
@@ -67,6 +67,9 @@ lines_left-none it next pattern steps = search (rules, no-lines)
 
 feed-ascii : IsAscii (line_feed ∷ [])
 feed-ascii is = search rules
+
+pub not-utf8 : (text : List ℕ) → is_utf8 text ≡ false → IsUtf8 text → ⊥
+not-utf8 text is utf8 = absurd (let bad : false ≡ true = sym is ∙ is_utf8-from_IsUtf8 text utf8 in cc)
 
 -- each line of UTF-8 is UTF-8
 module _ (line rest : List ℕ) (utf8 : IsUtf8 (line ++ (line_feed ∷ rest))) where

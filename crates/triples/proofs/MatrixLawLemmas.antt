@@ -1,15 +1,16 @@
 -- The laws of mode `matrix`.
+use Rattle.triples.proofs.Common.{arith, common_steps, Answer, ParsesAs, Shown, Values, bytes_eq, false, list_any}
+use Rattle.triples.proofs.Common.{or-false, shows, subst, ℕ, AreAnswers, Refused, answer_bytes, is_kept_after}
+use Rattle.triples.proofs.Common.{kept_answers, string_of, if◌then◌else◌, EveryStringHasOneOutcome, IsAnswer}
+use Rattle.triples.proofs.Common.{bytes_eq-Decides, canonical_string, ◌++◌, ◌||◌, ◌∙◌, ◌∷◌, ◌≡◌, Bool, List, [], ap}
+use Rattle.triples.proofs.Common.{map, not, refl, rules, sym, take, true}
 use Rattle.std.proofs.{Common.cond, Math.Bool.or-true, lemmas.List.Elements.filter-append}
 use Rattle.std.specs.{Cmp.Lexicographic.same_text, List.filter}
 use Rattle.target_lexicon.specs.FixedPoints.{CanonicalStringsAreKeys, ParsedTriplesArePlain, RoundIsNormalStep}
 use Rattle.target_lexicon.specs.{FixedPoints.canonical_values, Laws.EqualTextsEqualTriples, NormalStep.normal_step}
-use Rattle.triples.proofs.AnswerLemmas.{if_stays, push-any, staying-push}
-use Rattle.triples.proofs.Common.{Answer, ParsesAs, Shown, Values, bytes_eq, false, list_any, or-false, shows, subst, ℕ}
-use Rattle.triples.proofs.Common.{AreAnswers, Refused, answer_bytes, append-nil, is_kept_after, kept_answers, string_of}
-use Rattle.triples.proofs.Common.{if◌then◌else◌, EveryStringHasOneOutcome, IsAnswer, bytes_eq-Decides, canonical_string}
-use Rattle.triples.proofs.Common.{◌++◌, ◌||◌, ◌∙◌, ◌∷◌, ◌≡◌, Bool, List, [], ap, map, not, refl, rules, sym, take, true}
-use Rattle.triples.specs.MatrixLaws.{EachCanonicalTripleHasAnEntry, EntriesAreCanonicalTriples, FirstEntriesStayInOrder}
-use Rattle.triples.specs.MatrixLaws.{MatricesAreTheirOwn, entries_of, is_refusal, only_entries}
+use Rattle.triples.proofs.AnswerLemmas.{if_stays, push-any}
+use Rattle.triples.specs.MatrixLaws.{EntriesAreCanonicalTriples, MatricesAreTheirOwn, entries_of, is_refusal}
+use Rattle.triples.specs.MatrixLaws.{only_entries}
 
 -- two lines that parse have the same entry if and only if their canonical triples are equal
 
@@ -41,9 +42,7 @@ stays-alike text before line is = search rules
 pub entries-staying : (text : List ℕ) (before lines : List Answer)
     → entries_of text (kept_answers before lines)
     ≡ (if list_any (shows text) before then [] else take 1 (entries_of text lines))
-entries-staying text before [] =
-    elim (list_any (shows text) before) as (λ b. ◌≡◌ {A = List Answer} [] (if b then [] else take 1 []))
-    [ true ↦ refl | false ↦ refl ]
+entries-staying text before [] = search rules
 entries-staying text before (line ∷ lines) =
     let test = shows text in
     filter-append test (if_stays (is_kept_after before line) line) (kept_answers (before ++ line ∷ []) lines)
@@ -64,31 +63,28 @@ refusals-staying before (Shown text ∷ lines) =
     (λ stays. filter is_refusal (if_stays stays (Shown text)) ++ rest ≡ rest) [ true ↦ refl | false ↦ refl ]
     ∙ refusals-staying (before ++ Shown text ∷ []) lines
 refusals-staying before (Refused message ∷ lines) =
-    ap (λ (t : List Answer). Refused message ∷ t) (refusals-staying (before ++ Refused message ∷ []) lines)
+    grind (arith, common_steps, refusals-staying (before ++ Refused message ∷ []) lines)
 
 -- each line is added to the matrix of the earlier ones
 
 -- no element passes if and only if none is kept
-none-passes : {X : Type 0} (test : X → Bool) (xs : List X) → filter test xs ≡ [] → list_any test xs ≡ false
+pub none-passes : {X : Type 0} (test : X → Bool) (xs : List X) → filter test xs ≡ [] → list_any test xs ≡ false
 none-passes test [] none = refl
 none-passes test (x ∷ xs) none =
     let kept = filter test xs in
     (elim (test x) as (λ b. cond b (x ∷ kept) kept ≡ [] → (b || list_any test xs) ≡ false)
     [ true ↦ λ bad. absurd cc | false ↦ none-passes test xs ]) none
 
-one-passes : {X : Type 0} (test : X → Bool) (xs : List X) → ¬ (filter test xs ≡ []) → list_any test xs ≡ true
+pub one-passes : {X : Type 0} (test : X → Bool) (xs : List X) → ¬ (filter test xs ≡ []) → list_any test xs ≡ true
 one-passes test [] some = absurd (some refl)
 one-passes test (x ∷ xs) some =
     let kept = filter test xs in
     (elim (test x) as (λ b. ¬ (cond b (x ∷ kept) kept ≡ []) → (b || list_any test xs) ≡ true)
     [ true ↦ λ one. refl | false ↦ one-passes test xs ]) some
 
-pub first_entries_stay_in_order : FirstEntriesStayInOrder
-first_entries_stay_in_order = search (rules, staying-push, if_stays, none-passes, one-passes, append-nil)
-
 -- the canonical triple of each line that parses is there
 
-first-entry : (text : List ℕ) (lines : List Answer) → list_any (shows text) lines ≡ true
+pub first-entry : (text : List ℕ) (lines : List Answer) → list_any (shows text) lines ≡ true
     → take 1 (entries_of text lines) ≡ Shown text ∷ []
 first-entry text [] some = absurd cc
 first-entry text (Refused message ∷ lines) some = first-entry text lines some
@@ -109,21 +105,13 @@ module _ (one : EveryStringHasOneOutcome) (line : List ℕ) (t : Values) (reads 
       (bytes_eq-Decides (canonical_string t) text).1 (ap canonical_string (sym same) ∙ sym is.2)
   own-entry (Refused message) is = absurd ((one line).apart t reads (is.0, is.1))
 
-  some-entry : (earlier back : List (List ℕ)) (answers : List Answer)
+  pub some-entry : (earlier back : List (List ℕ)) (answers : List Answer)
       → AreAnswers canonical_string (earlier ++ line ∷ back) answers
       → list_any (shows (canonical_string t)) answers ≡ true
-  some-entry [] back [] are = absurd are
-  some-entry [] back (first ∷ others) are =
-      ap (λ (b : Bool). b || list_any (shows (canonical_string t)) others) (own-entry first are.0)
-  some-entry (other ∷ earlier) back [] are = absurd are
+  some-entry [] back (first ∷ others) are = grind (arith, common_steps, own-entry)
   some-entry (other ∷ earlier) back (first ∷ others) are =
-      ap (λ (b : Bool). shows (canonical_string t) first || b) (some-entry earlier back others are.1)
-      ∙ or-true (shows (canonical_string t) first)
-
-pub each_canonical_triple_has_an_entry : EveryStringHasOneOutcome → EachCanonicalTripleHasAnEntry
-each_canonical_triple_has_an_entry one earlier back line answers are t reads =
-    entries-staying (canonical_string t) [] answers
-    ∙ first-entry (canonical_string t) answers (some-entry one line t reads earlier back answers are)
+      grind (arith, common_steps, or-true, some-entry earlier back others are.1)
+  some-entry _ back _ are = absurd are
 
 -- the entries of a matrix are their own matrix
 

@@ -1,21 +1,13 @@
 -- The laws of how runs end.
 use Rattle.std.proofs.Common.{IsErrAnd, IsErrOf}
-use Rattle.triples.proofs.Common.{EveryStringHasOneOutcome, IsJsonInputErrorOf, IsReadWhole, IsUnfailed, TakesBeginning}
-use Rattle.triples.proofs.Common.{Gives, HasFailed, IsOutput, IsUtf8, RunEnds, RunError, RunGives, StopsLast, StopsOnce}
-use Rattle.triples.proofs.Common.{◌↔◌, ◌≡◌, ◌≢◌, Err, Json, List, Mode, Ok, Result, Takes, Use, [], read, rules, subst}
-use Rattle.triples.proofs.{Common.ℕ, UniqueOutputs.outputs-unique, UseLemmas.input-is, UseLemmas.output-is}
-use Rattle.triples.specs.RunLaws.{ErrorsOfRunsAreExact, IsJudged, RunsEndOneWay}
-use Rattle.triples.specs.{Private.HasNoOutput, Run.EndsAs, Run.IsUntouched, Run.IsWrittenWhole}
+use Rattle.triples.proofs.Common.{EveryStringHasOneOutcome, IsJsonInputErrorOf, IsReadWhole, IsUnfailed}
+use Rattle.triples.proofs.Common.{TakesBeginning, Gives, HasFailed, IsOutput, IsUtf8, RunEnds, RunError, RunGives}
+use Rattle.triples.proofs.Common.{StopsLast, ◌↔◌, ◌≡◌, ◌≢◌, Err, Json, List, Mode, Ok, Result, Takes, Use, [], read}
+use Rattle.triples.proofs.Common.{rules, subst, ℕ}
+use Rattle.triples.proofs.{UniqueOutputs.outputs-unique, UseLemmas.input-is, UseLemmas.output-is}
+use Rattle.triples.specs.RunLaws.{IsJudged}
+use Rattle.triples.specs.{Private.HasNoOutput, Run.EndsAs, Run.IsWrittenWhole}
 use Rattle.triples.specs.declared.run_error.RunError.TheVariants as run_error
-
--- an input with an output has no error of JSON
-output-no-json-error : (mode : Mode) (text output : List ℕ) → IsOutput mode text output → mode ≡ Json
-    → IsJsonInputErrorOf text run_error.NotJson → ⊥
-output-no-json-error mode text output is json error = search rules
-
-output-no-list-error : (mode : Mode) (text output : List ℕ) → IsOutput mode text output → mode ≡ Json
-    → IsJsonInputErrorOf text run_error.NotList → ⊥
-output-no-list-error mode text output is json error = search rules
 
 -- why an input has no output, whatever memory there is
 abbrev pub IsInputError : Mode → List ℕ → RunError → Type 0
@@ -36,7 +28,7 @@ read-whole : (mode : Mode) (reader writer : Use) (input output : List ℕ) (resu
 read-whole mode reader writer input output result ends unfailed memory = search rules
 
 -- so what it did is said of its input
-judged : (mode : Mode) (reader writer : Use) (result : Result (Unit {0}) RunError) (text : List ℕ)
+pub judged : (mode : Mode) (reader writer : Use) (result : Result (Unit {0}) RunError) (text : List ℕ)
     (ends : EndsAs mode reader writer result) → IsJudged reader result text
     → RunEnds mode reader writer text ends.output result
 judged mode reader writer result text ends it = search (rules, read-whole, input-is)
@@ -46,8 +38,8 @@ outcome-of : (mode : Mode) (reader writer : Use) (text bytes : List ℕ) (result
     → IsUnfailed reader → IsUnfailed writer → result ≢ Err run_error.OutOfMemory → Outcome mode text result bytes
 outcome-of mode reader writer text bytes result ends read write memory = search rules
 
-outcome : (mode : Mode) (text bytes : List ℕ) (result : Result (Unit {0}) RunError) → RunGives mode text result bytes
-    → Outcome mode text result bytes
+pub outcome : (mode : Mode) (text bytes : List ℕ) (result : Result (Unit {0}) RunError)
+    → RunGives mode text result bytes → Outcome mode text result bytes
 outcome mode text bytes result run =
     let ends = judged mode run.reader run.writer result text run.ends
     (record { text_is = run.text_is; read_unfailed = run.read_unfailed; memory = run.memory }) in
@@ -55,11 +47,6 @@ outcome mode text bytes result run =
     (subst (λ (t : List ℕ). RunEnds mode run.reader run.writer text t result)
     (output-is run.writer run.ends.output bytes run.bytes_are run.ends.takes) ends)
     run.read_unfailed run.write_unfailed run.memory
-
--- no text is JSON that is no list, and no JSON
-not-json-or-not-list : (text : List ℕ) → IsJsonInputErrorOf text run_error.NotJson
-    → IsJsonInputErrorOf text run_error.NotList → ⊥
-not-json-or-not-list text json list = search rules
 
 -- an input with an output has no such error, and another has one
 module _ (mode : Mode) (text : List ℕ) where
@@ -69,44 +56,20 @@ module _ (mode : Mode) (text : List ℕ) where
   one-error : (e f : RunError) → IsInputError mode text e → IsInputError mode text f → e ≡ f
   one-error e f a b = search rules
 
-  same-outcome : EveryStringHasOneOutcome → (x y : List ℕ) (a b : Result (Unit {0}) RunError) → Outcome mode text a x
-      → Outcome mode text b y → (a ≡ b) × (x ≡ y)
+  pub same-outcome : EveryStringHasOneOutcome → (x y : List ℕ) (a b : Result (Unit {0}) RunError)
+      → Outcome mode text a x → Outcome mode text b y → (a ≡ b) × (x ≡ y)
   same-outcome one x y a b a2 b2 = search (rules, outputs-unique, no-error, one-error)
 
-pub runs_end_one_way : EveryStringHasOneOutcome → RunsEndOneWay
-runs_end_one_way one mode text x y a b first second =
-    same-outcome mode text one x y a b (outcome mode text x a first) (outcome mode text y b second)
-
 -- each error is the result exactly in its case
-never : {A B : Type 0} → ¬ A → ¬ B → A ↔ B
-never no_a no_b = (λ a. absurd (no_a a), λ b. absurd (no_b b))
-
 module _ (mode : Mode) (reader writer : Use) (text output : List ℕ) where
-  failures-exact : (result : Result (Unit {0}) RunError) → RunEnds mode reader writer text output result
+  pub failures-exact : (result : Result (Unit {0}) RunError) → RunEnds mode reader writer text output result
       → (IsErrOf result run_error.Read ↔ HasFailed reader) × (IsErrOf result run_error.Write ↔ HasFailed writer)
   failures-exact result ends = search rules
 
-  exact : (f : RunError) → IsInputError mode text f → (e : RunError)
-      → ◌≡◌ {A = Result (Unit {0}) RunError} (Err f) (Err e) ↔ IsInputError mode text e
-  exact f it e = search rules
-
-  judge : (result : Result (Unit {0}) RunError) → RunEnds mode reader writer text output result → IsUnfailed reader
+  pub judge : (result : Result (Unit {0}) RunError) → RunEnds mode reader writer text output result → IsUnfailed reader
       → result ≢ Err run_error.OutOfMemory → (e : RunError) → e ≢ run_error.Write
       → IsErrOf result e ↔ IsInputError mode text e
   judge result ends unfailed memory e other = search rules
-
-pub errors_of_runs_are_exact : ErrorsOfRunsAreExact
-errors_of_runs_are_exact mode reader writer result ends =
-    let exactly = λ (text : List ℕ) (it : IsJudged reader result text). judge mode reader writer text ends.output result
-    (judged mode reader writer result text ends it) it.read_unfailed it.memory in
-    let failures = failures-exact mode reader writer ends.input ends.output result ends.by_result in
-    record {
-      read = failures.0;
-      write = failures.1;
-      not_utf8 = λ text it. exactly text it run_error.NotUtf8 (λ bad. cc);
-      not_json = λ text it. exactly text it run_error.NotJson (λ bad. cc);
-      not_list = λ text it. exactly text it run_error.NotList (λ bad. cc);
-    }
 
 -- the whole input was read, and is UTF-8
 pub record IsText (reader : Use) (text : List ℕ) : Type 0 where
@@ -120,11 +83,6 @@ is-text gives whole same is utf8 = record { gives = rw (is, same) gives; whole =
 
 -- how a run ends, from its steps
 module _ {mode : Mode} {reader : Use} {text : List ℕ} (read : IsText reader text) where
-  ends-with : {writer : Use} (result : Result (Unit {0}) RunError) (output : List ℕ) → Takes writer output
-      → StopsOnce writer
-      → RunEnds mode reader writer text output result → EndsAs mode reader writer result
-  ends-with result output takes once by_result = search rules
-
   -- the output was written and flushed
   pub written-ends : {writer : Use} {output : List ℕ} → IsOutput mode text output → Takes writer output
       → IsWrittenWhole writer → EndsAs mode reader writer (Ok tt)
@@ -134,11 +92,6 @@ module _ {mode : Mode} {reader : Use} {text : List ℕ} (read : IsText reader te
   pub write-ends : {writer : Use} (output : List ℕ) → IsOutput mode text output → TakesBeginning writer output
       → HasFailed writer → StopsLast writer → EndsAs mode reader writer (Err run_error.Write)
   write-ends output is is2 failed last = search rules
-
-  -- the input has no output
-  no-output : (writer : Use) (e : RunError) → HasNoOutput mode text e → IsUntouched writer []
-      → RunEnds mode reader writer text [] (Err e)
-  no-output writer e is none = search rules
 
   pub no-output-ends : {writer : Use} {e : RunError} → HasNoOutput mode text e → Takes writer []
       → writer.calls_after ≡ writer.calls_before → EndsAs mode reader writer (Err e)

@@ -1,26 +1,16 @@
 -- An input has at most one output in a mode, and none if it isn't a JSON list.
+use Rattle.triples.proofs.Common.{arith, common_steps, EveryStringHasOneOutcome, IsAnswer, IsFirstError, IsJsonAnswer}
+use Rattle.triples.proofs.Common.{IsJsonErrorOf, IsLineOutput, IsOutput, Items, JsonErrorValue, JsonParsesAs, List}
+use Rattle.triples.proofs.Common.{MatchOption, Mode, None, NotText, Option, Parse, ParsesAs, Refusal, Refused, Shown}
+use Rattle.triples.proofs.Common.{Some, Values, [], ap, as_array, as_str, cases_lt, codes, item, line_feed, lines_of}
+use Rattle.triples.proofs.Common.{list_error_line, inl, inr, refl, refusal_line, rules, suc, sym, zero, ℕ, ◌++◌, ◌∙◌}
+use Rattle.triples.proofs.Common.{◌∷◌, ◌≡◌, ◌≢◌, AllZip, Answer, AreAnswers, Data, Element, ElementsParseAs}
 use Rattle.serde_json.specs.{Data.string, Find.get_item}
-use Rattle.triples.proofs.Common.{EveryStringHasOneOutcome, IsAnswer, IsFirstError, IsJsonAnswer, IsJsonErrorOf}
-use Rattle.triples.proofs.Common.{IsLineOutput, IsOutput, Items, JsonErrorValue, JsonParsesAs, List, MatchOption, Mode}
-use Rattle.triples.proofs.Common.{None, NotText, Option, Parse, ParsesAs, Refusal, Refused, Shown, Some, Values, [], ap}
-use Rattle.triples.proofs.Common.{as_array, as_str, cases_lt, codes, item, line_feed, lines_of, list_error_line}
-use Rattle.triples.proofs.Common.{no_items, refl, refusal_line, rules, subst, suc, sym, zero, ℕ}
-use Rattle.triples.proofs.Common.{◌++◌, ◌∙◌, ◌∷◌, ◌≡◌, ◌≢◌, AllZip, Answer, AreAnswers, Data, Element, ElementsParseAs}
 
 -- what is written for a JSON value
 abbrev pub IsJsonText : Option Data → List ℕ → Type 0
 IsJsonText found output =
     MatchOption found ⊥ (λ value. (answer : List ℕ) × IsJsonAnswer value answer × (output ≡ answer ++ line_feed ∷ []))
-
-pub text-is-json : (found : Option Data) (output : List ℕ) → IsJsonText found output → found ≡ None → ⊥
-text-is-json found output is none = subst (λ (f : Option Data). IsJsonText f output) none is
-
-answer-is-list : (value : Data) (answer : List ℕ) → IsJsonAnswer value answer → as_array value ≡ None → ⊥
-answer-is-list value answer is none = search rules
-
-pub text-is-list : (found : Option Data) (output : List ℕ) → IsJsonText found output
-    → MatchOption found ⊥ (λ value. as_array value ≡ None) → ⊥
-text-is-list found output is none = search rules
 
 -- what follows from two facts of the value that was found
 both : {A G : Type 0} (found : Option A) (P Q : A → Type 0) → ((x : A) → P x → Q x → G) → MatchOption found ⊥ P
@@ -30,14 +20,8 @@ both found P Q follows a b = search rules
 -- lists whose elements have one partner, or some
 pub zip-unique : {A B : Type 0} {R : A → B → Type 0} → ((a : A) (x y : B) → R a x → R a y → x ≡ y)
     → (us : List A) (xs ys : List B) → AllZip R us xs → AllZip R us ys → xs ≡ ys
-zip-unique one [] [] [] are be = refl
-zip-unique one [] (x ∷ xs) ys are be = absurd are
-zip-unique one [] [] (y ∷ ys) are be = absurd be
-zip-unique one (a ∷ us) [] ys are be = absurd are
-zip-unique one (a ∷ us) (x ∷ xs) [] are be = absurd be
-zip-unique {B} one (a ∷ us) (x ∷ xs) (y ∷ ys) are be =
-    ap (λ (b : B). b ∷ xs) (one a x y are.0 be.0)
-    ∙ ap (λ (rest : List B). y ∷ rest) (zip-unique one us xs ys are.1 be.1)
+zip-unique one (a ∷ us) (x ∷ xs) (y ∷ ys) are be = grind (arith, common_steps, zip-unique one us xs ys are.1 be.1)
+zip-unique one _ _ _ are be = search rules
 
 pub zip-some : {A B : Type 0} {R : A → B → Type 0} → ((a : A) → (b : B) × R a b) → (us : List A)
     → (bs : List B) × AllZip R us bs
@@ -55,6 +39,12 @@ module _ (one : EveryStringHasOneOutcome) where
   answer-unique shown line (Shown x) (Refused y) a b = absurd ((one line).apart a.0 a.1 (b.0, b.1))
   answer-unique shown line (Refused x) (Shown y) a b = absurd ((one line).apart b.0 b.1 (a.0, a.1))
 
+  pub answer-some : (shown : Values → List ℕ) (line : List ℕ) → (answer : Answer) × IsAnswer shown line answer
+  answer-some shown line = elim ((one line).some) [
+    | inl read ↦ (Shown (shown read.0), (read.0, read.1, refl))
+    | inr refused ↦ (Refused (codes "error: " ++ refusal_line refused.0), (refused.0, refused.1, refl))
+  ]
+
   pub answers-unique : (shown : Values → List ℕ) (lines : List (List ℕ)) (xs ys : List Answer)
       → AreAnswers shown lines xs → AreAnswers shown lines ys → xs ≡ ys
   answers-unique shown = zip-unique (answer-unique shown)
@@ -66,47 +56,31 @@ module _ (one : EveryStringHasOneOutcome) where
   -- an element that parses has no error, and each other one has one error
   read-no-error : (value : Data) (t : Values) (error : JsonErrorValue) → error ≢ Parse None → JsonParsesAs value t
       → IsJsonErrorOf value error → ⊥
-  read-no-error (string s) t NotText some reads is =
-      absurd (let bad : ◌≡◌ {A = Option (List ℕ)} (Some s) None = is in cc)
-  read-no-error (string s) t (Parse None) some reads is = some refl
-  read-no-error (string s) t (Parse (Some refusal)) some reads is = (one s).apart t reads (refusal, is)
+  read-no-error (string s) t error some reads is = let outcome = one s in search rules
   read-no-error _ t error some reads is = reads
 
   error-unique : (value : Data) (x y : JsonErrorValue) → x ≢ Parse None → y ≢ Parse None → IsJsonErrorOf value x
       → IsJsonErrorOf value y → x ≡ y
-  error-unique (string s) NotText y some_x some_y a b =
-      absurd (let bad : ◌≡◌ {A = Option (List ℕ)} (Some s) None = a in cc)
-  error-unique (string s) (Parse None) y some_x some_y a b = absurd (some_x refl)
-  error-unique (string s) (Parse (Some x)) NotText some_x some_y a b =
-      absurd (let bad : ◌≡◌ {A = Option (List ℕ)} (Some s) None = b in cc)
-  error-unique (string s) (Parse (Some x)) (Parse None) some_x some_y a b = absurd (some_y refl)
   error-unique (string s) (Parse (Some x)) (Parse (Some y)) some_x some_y a b =
       ap (λ (r : Refusal). Parse (Some r)) ((one s).refusal x y a b)
   error-unique _ NotText NotText some_x some_y a b = refl
-  error-unique _ NotText (Parse y) some_x some_y a b = absurd b
-  error-unique _ (Parse x) y some_x some_y a b = absurd a
+  error-unique _ _ _ some_x some_y a b = search rules
 
   elements-unique : (elements : Items) (ts us : List Values) → ElementsParseAs elements ts → ElementsParseAs elements us
       → ts ≡ us
-  elements-unique no_items [] [] a b = refl
-  elements-unique no_items [] (u ∷ us) a b = absurd b
-  elements-unique no_items (t ∷ ts) us a b = absurd a
-  elements-unique (item value values) [] us a b = absurd a
-  elements-unique (item value values) (t ∷ ts) [] a b = absurd b
   elements-unique (item value values) (t ∷ ts) (u ∷ us) a b =
       ap (λ (v : Values). v ∷ ts)
       (both (as_str value) (λ s. ParsesAs s t) (λ s. ParsesAs s u) (λ s. (one s).values t u) a.0 b.0)
       ∙ ap (λ (vs : List Values). u ∷ vs) (elements-unique values ts us a.1 b.1)
+  elements-unique _ _ _ a b = search rules
 
   elements-no-error : (elements : Items) (ts : List Values) (i : ℕ) (error : JsonErrorValue) → error ≢ Parse None
       → ElementsParseAs elements ts
       → MatchOption (get_item i elements) ⊥ (λ value. IsJsonErrorOf value error) → ⊥
-  elements-no-error no_items ts i error some reads here = here
-  elements-no-error (item value values) [] i error some reads here = reads
-  elements-no-error (item value values) (t ∷ ts) zero error some reads here =
-      read-no-error value t error some reads.0 here
+  elements-no-error (item value values) (t ∷ ts) zero error some reads here = search (rules, read-no-error)
   elements-no-error (item value values) (t ∷ ts) (suc i) error some reads here =
       elements-no-error values ts i error some reads.1 here
+  elements-no-error _ _ _ error some reads here = search rules
 
   found-no-error : (found : Option Data) (error : JsonErrorValue) → error ≢ Parse None
       → MatchOption found ⊥ (λ value. (t : Values) × JsonParsesAs value t)

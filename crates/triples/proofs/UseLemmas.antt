@@ -3,17 +3,13 @@ use Rattle.std.proofs.{KnownBytes.Appends-nil, lemmas.List.append_cancel_left}
 use Rattle.std.specs.Prelude.{IfSome}
 use Rattle.triples.proofs.Common.{IsUnfailed, IsWritten, Keeps, List, Option, Takes, TakesBeginning, Use, [], ap}
 use Rattle.triples.proofs.Common.{append-nil, append_assoc, arith, bytes_of, drop, length, length-append, rules, sym}
-use Rattle.triples.proofs.Common.{take, take-append-add, take-append-drop, take-append_seam, ℕ}
-use Rattle.triples.proofs.Common.{◌++◌, ◌+◌, ◌↔◌, ◌∙◌, ◌≡◌, ◌≤◌, Call, Consumes, Gives, HasFailed, IsReadWhole}
+use Rattle.triples.proofs.Common.{take, take-append-add, take-append-drop, take-append_seam, ℕ, ◌++◌, ◌+◌, ◌∙◌, ◌≡◌}
+use Rattle.triples.proofs.Common.{◌≤◌, Call, Consumes, Gives, HasFailed, IsReadWhole}
 use Rattle.triples.specs.RunLaws.{IsInput}
 
 -- a call that didn't fail has not failed
 pub not-both : (it : Use) → IsUnfailed it → HasFailed it → ⊥
 not-both it unfailed failed = omega (arith, unfailed, failed)
-
--- an error that isn't the result, of a reader or writer that didn't fail
-pub no-failure : {E : Type 0} (it : Use) → ¬ E → IsUnfailed it → E ↔ HasFailed it
-no-failure it other unfailed = (λ is. absurd (other is), λ failed. absurd (not-both it unfailed failed))
 
 -- a reader or writer between two calls: its bytes, if they are known, and its calls so far
 pub record State : Type 0 where
@@ -29,9 +25,6 @@ from_to a b =
 module _ {a b c : State} {x : List ℕ} where
   pub takes-then : {y : List ℕ} → Takes (from_to a b) x → Takes (from_to b c) y → Takes (from_to a c) (x ++ y)
   takes-then first next = search (rules, append_assoc)
-
-  pub gives-then : {y : List ℕ} → Gives (from_to a b) x → Gives (from_to b c) y → Gives (from_to a c) (x ++ y)
-  gives-then first next = search (rules, append_assoc)
 
   -- a call that moved nothing
   pub takes-kept : Takes (from_to a b) x → Keeps b.bytes c.bytes → bytes_of c.calls ≡ bytes_of b.calls

@@ -1,7 +1,7 @@
 -- The calls of a reader or writer, as a list. The latest call is the first of the list.
 use Rattle.std.specs.Prelude.{ℕ, ◌+◌, Bool, true, false, List, [], ◌∷◌, ◌++◌}
-use Rattle.triples.specs.declared.trace.Stop.{Stop}
-use Rattle.triples.specs.declared.trace.Stop.TheVariants as stop
+use Rattle.triples.specs.declared.trace.Outcome.{Outcome}
+use Rattle.triples.specs.declared.trace.Outcome.TheVariants as outcome
 
 -- what a call did
 pub data Call : Type 0 where
@@ -16,11 +16,12 @@ pub data Call : Type 0 where
   -- no call: the reader's next call was made after a writer had taken these bytes
   After : List ℕ → Call
 
--- a call that was to be the last
-abbrev pub stop_call : Stop → Call
-stop_call stop.Ended = Ended
-stop_call stop.Flushed = Flushed
-stop_call stop.Failed = Failed
+-- a call that ended so, of these bytes
+abbrev pub call_of : Outcome → List ℕ → Call
+call_of outcome.Moved bytes = Moved bytes
+call_of outcome.Ended bytes = Ended
+call_of outcome.Flushed bytes = Flushed
+call_of outcome.Failed bytes = Failed
 
 -- the bytes that a call moved
 abbrev pub bytes_in : Call → List ℕ

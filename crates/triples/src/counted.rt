@@ -8,7 +8,7 @@ ghost use Rattle.triples.specs.Streams.{calls, inner, failures, moved, is_ended,
 ghost use Rattle.triples.specs.Streams.{moved_by, finds_end, stops, stops_by, is_last_by, read_call, write_call};
 ghost use Rattle.triples.specs.Streams.{flush_call};
 
-use crate::trace::{Stop, Trace};
+use crate::trace::{Outcome, Trace};
 use std::io;
 use std::io::{Read, Write};
 
@@ -59,9 +59,9 @@ impl<R: Read> Counted<R> {
     {
         let answer = self.inner.read(buf);
         match answer {
-            Ok(0) if !buf.is_empty() => self.trace.stop(&Stop::Ended),
-            Ok(count) => self.trace.add(&buf[..count]),
-            Err(_) => self.trace.stop(&Stop::Failed),
+            Ok(0) if !buf.is_empty() => self.trace = self.trace.with(&Outcome::Ended, &[]),
+            Ok(count) => self.trace = self.trace.with(&Outcome::Moved, &buf[..count]),
+            Err(_) => self.trace = self.trace.with(&Outcome::Failed, &[]),
         }
         answer
     }
@@ -93,9 +93,9 @@ impl<W: Write> Counted<W> {
     {
         let answer = self.inner.write(buf);
         match answer {
-            Ok(0) if !buf.is_empty() => self.trace.stop(&Stop::Failed),
-            Ok(count) => self.trace.add(&buf[..count]),
-            Err(_) => self.trace.stop(&Stop::Failed),
+            Ok(0) if !buf.is_empty() => self.trace = self.trace.with(&Outcome::Failed, &[]),
+            Ok(count) => self.trace = self.trace.with(&Outcome::Moved, &buf[..count]),
+            Err(_) => self.trace = self.trace.with(&Outcome::Failed, &[]),
         }
         answer
     }
@@ -112,8 +112,8 @@ impl<W: Write> Counted<W> {
     {
         let answer = self.inner.flush();
         match answer {
-            Ok(()) => self.trace.stop(&Stop::Flushed),
-            Err(_) => self.trace.stop(&Stop::Failed),
+            Ok(()) => self.trace = self.trace.with(&Outcome::Flushed, &[]),
+            Err(_) => self.trace = self.trace.with(&Outcome::Failed, &[]),
         }
         answer
     }

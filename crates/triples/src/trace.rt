@@ -1,12 +1,14 @@
 //! What calls did, for contracts.
 ghost use Rattle.std.specs.Prelude.{◌≡◌, List, [], ◌∷◌};
 ghost use Rattle.std.specs.Borrow.{ftrue};
-ghost use Rattle.triples.specs.Calls.{Call, Moved, After, bytes_of, stop_call};
+ghost use Rattle.triples.specs.Calls.{Call, After, bytes_of, call_of};
 
 use std::marker::Model;
 
-/// What a call did that is to be the last.
-pub enum Stop {
+/// What a call did.
+pub enum Outcome {
+    /// A read gave bytes, or a write took them.
+    Moved,
     /// A read found the end.
     Ended,
     /// What was written was flushed.
@@ -33,18 +35,11 @@ impl Trace {
         Trace {}
     }
 
-    /// Adds a call that moved these bytes.
-    pub fn add(&mut self, _bytes: &[u8])
-        ensures { self.new ≡ record { calls = Moved _bytes.now ∷ self.old.calls } }
+    /// This trace, and a call that ended so. The bytes are those that it moved, if it did.
+    pub fn with(&self, _how: &Outcome, _bytes: &[u8]) -> Self
+        ensures { result ≡ record { calls = call_of _how.now _bytes.now ∷ self.now.calls } }
     {
-        // there is nothing to run
-    }
-
-    /// Adds a call that ended so.
-    pub fn stop(&mut self, _how: &Stop)
-        ensures { self.new ≡ record { calls = stop_call _how.now ∷ self.old.calls } }
-    {
-        // there is nothing to run
+        Trace {}
     }
 
     /// This trace, and which bytes a writer had taken before the next call.

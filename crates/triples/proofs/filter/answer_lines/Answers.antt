@@ -1,7 +1,8 @@
 -- The loop has answered the lines before `start`; what is left after the last line feed begins there.
-use Rattle.triples.proofs.Common.{◌++◌, HasNoFeed, List, ap, arith, drop, length, length-drop, refl, rules, subst, take}
-use Rattle.triples.proofs.FilterLemmas.{answers-none, line-step, no-bytes, pushed-within, rest-of}
-use Rattle.triples.proofs.{Common.◌∙◌, Common.ℕ, UseLemmas.takes-none, UseLemmas.takes-part, UseLemmas.takes-then}
+use Rattle.triples.proofs.Common.{◌++◌, HasNoFeed, List, ap, arith, drop, length, length-drop, rules, subst, take, ◌∙◌}
+use Rattle.triples.proofs.Common.{ℕ}
+use Rattle.triples.proofs.FilterLemmas.{answers-none, line-step, lines-failed, no-bytes, pushed-within, rest-of}
+use Rattle.triples.proofs.{UseLemmas.takes-none, UseLemmas.takes-then}
 use Rattle.triples.proofs.filter.answer_lines.Goals as goal
 
 pub loop-at-init : goal.loop-at-init
@@ -51,17 +52,9 @@ pub returns-in_default-make_room-clause-lines : goal.returns-in_default-make_roo
 returns-in_default-make_room-clause-lines g c =
     let inv = c.loop-at.invariant in
     let failed = c.in_default-make_room.ensures in
-    let part = takes-part (take c.loop-at.used c.loop-at.output) inv.written.1 (failed.2, failed.3) in (
-      refl,
-      omega (arith, failed.1, inv.unfailed),
-      inv.written.0 ++ take c.loop-at.used c.loop-at.output,
-      c.loop-at.late,
-      drop c.loop-at.start c.args.bytes.now,
-      inv.written.2,
-      part.0,
-      part.1,
-      (omega (arith, failed.4.0, inv.moves), failed.4.1),
-    )
+    lines-failed c.args.mode c.args.is_late c.loop-at.late c.args.bytes.now (drop c.loop-at.start c.args.bytes.now)
+    inv.written.0 (take c.loop-at.used c.loop-at.output) inv.written.2 inv.unfailed inv.moves inv.written.1 failed.1
+    (failed.2, failed.3) failed.4
 
 pub returns-in-Ok-write_all-clause-lines : goal.returns-in-Ok-write_all-clause-lines
 returns-in-Ok-write_all-clause-lines g c =
@@ -81,14 +74,6 @@ pub returns-in-Err-clause-lines : goal.returns-in-Err-clause-lines
 returns-in-Err-clause-lines g c =
     let inv = c.loop-at.invariant in
     let failed = c.in-Err.ensures in
-    let part = takes-part (take c.loop-at.used c.loop-at.output) inv.written.1 failed.begun in (
-      refl,
-      omega (arith, failed.failed.1, inv.unfailed),
-      inv.written.0 ++ take c.loop-at.used c.loop-at.output,
-      c.loop-at.late,
-      drop c.loop-at.start c.args.bytes.now,
-      inv.written.2,
-      part.0,
-      part.1,
-      (omega (arith, failed.failed.2.0, inv.moves), failed.failed.2.1),
-    )
+    lines-failed c.args.mode c.args.is_late c.loop-at.late c.args.bytes.now (drop c.loop-at.start c.args.bytes.now)
+    inv.written.0 (take c.loop-at.used c.loop-at.output) inv.written.2 inv.unfailed inv.moves inv.written.1
+    failed.failed.1 failed.begun failed.failed.2

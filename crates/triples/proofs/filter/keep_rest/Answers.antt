@@ -1,6 +1,6 @@
 use Rattle.std.proofs.lemmas.List.{drop-take}
-use Rattle.triples.proofs.Common.{sym, take, ℕ}
-use Rattle.triples.proofs.Common.{◌+◌, ◌-◌, ◌∙◌, ◌≡◌, ◌≤◌, List, ap, arith, drop, inr, length, length-drop, refl, rules}
+use Rattle.triples.proofs.Common.{sym, take, ℕ, ◌+◌, ◌-◌, ◌∙◌, ◌≡◌, ◌≤◌, List, ap, arith, drop, length, length-drop}
+use Rattle.triples.proofs.Common.{rules}
 use lib.Seq.{paste, take-paste}
 use Rattle.triples.proofs.filter.keep_rest.Goals as goal
 
@@ -16,8 +16,7 @@ kept old start end order within =
     ∙ sym (drop-take start n old) ∙ ap (λ (m : ℕ). drop start (take m old)) whole
 
 pub returns-then-start-eq0-clause-kept : goal.returns-then-start-eq0-clause-kept
-returns-then-start-eq0-clause-kept c =
-    inr (refl, c.if-is_late.false, ap (λ (n : ℕ). drop n (take c.args.end c.args.buffer.now)) (sym c.if-start-eq0.true))
+returns-then-start-eq0-clause-kept c = search rules
 
 pub returns-clause-kept : goal.returns-clause-kept
 returns-clause-kept c = search (rules, kept)

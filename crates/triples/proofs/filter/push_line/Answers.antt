@@ -1,10 +1,8 @@
-use Rattle.triples.proofs.Common.{refl, too_long}
+use Rattle.triples.proofs.Common.{rules, refl, too_long}
 use Rattle.triples.proofs.filter.push_line.Goals as goal
 
 pub returns-then-is_late : goal.returns-then-is_late
 returns-then-is_late c = record { answer = too_long; is = rw c.if-is_late.true refl; pushed = c.put.ensures }
 
 pub returns : goal.returns
-returns c =
-    let found = c.push_answer.ensures in
-    record { answer = found.answer; is = rw c.if-is_late.false found.is; pushed = found.pushed }
+returns c = search rules

@@ -1,5 +1,5 @@
-use Rattle.triples.proofs.FilterLawLemmas.{errors_of_filters_are_exact}
+use Rattle.triples.proofs.Common.{rules}
 use Rattle.triples.proofs.laws.errors_of_filters_are_exact.Goals as goal
 
 pub returns : goal.returns
-returns c = errors_of_filters_are_exact
+returns c mode size reader writer result ends = search rules

@@ -1,5 +1,6 @@
-use Rattle.triples.proofs.FilterLawLemmas.{filters_end_one_way}
+use Rattle.triples.proofs.FilterLawLemmas.{end-one-way}
 use Rattle.triples.proofs.laws.filters_end_one_way.Goals as goal
 
 pub returns : goal.returns
-returns c = filters_end_one_way
+returns c mode size input writer result fewer run =
+    end-one-way mode size input writer fewer result run run.ends.by_result

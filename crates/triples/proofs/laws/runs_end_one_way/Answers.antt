@@ -1,5 +1,7 @@
-use Rattle.triples.proofs.RunLawLemmas.{runs_end_one_way}
+use Rattle.triples.proofs.RunLawLemmas.{outcome, same-outcome}
 use Rattle.triples.proofs.laws.runs_end_one_way.Goals as goal
 
 pub returns : goal.returns
-returns c = runs_end_one_way c.every_string_has_one_outcome.ensures
+returns c mode text x y a b first second =
+    same-outcome mode text c.every_string_has_one_outcome.ensures x y a b (outcome mode text x a first)
+    (outcome mode text y b second)
