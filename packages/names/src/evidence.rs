@@ -264,7 +264,7 @@ impl<'a> Evidence<'a> {
         levels.find_map(|it| Some((it.1, self.text.len() - after(it.0.strip_prefix(platform)?)?.len())))
     }
 
-    fn has_machine(&self) -> bool {
+    pub(crate) fn has_machine(&self) -> bool {
         self.machine != Said::Unsaid || self.is_any_arm || self.is_other_machine
     }
 
@@ -352,6 +352,12 @@ impl<'a> Evidence<'a> {
             },
             said => said,
         }
+    }
+
+    /// The level of a machine that the words say, or an empty string.
+    pub(crate) fn level_of(&self, machine: Architecture) -> &'static str {
+        let is_own = self.machine().one().map(machine_of) == Some(machine_of(machine));
+        self.level.one().filter(|_| is_own).unwrap_or("")
     }
 
     /// Whether the words name this, of a tool whose `arm` has 32 bits.
@@ -458,9 +464,12 @@ impl<'a> Evidence<'a> {
             said => said.one() == width && width.is_some(),
         };
         let (library, form) = said_by(triple.environment).unwrap_or(("", ""));
-        let has_form = match self.form {
-            Said::Unsaid => self.system == Said::Unsaid || !matches!(form, "android" | "ohos"),
-            said => said.one() == Some(form),
+        let has_form = match (self.form, form) {
+            (Said::Unsaid, "" | "n64") => true,
+            (Said::Unsaid, "android" | "ohos") => self.system == Said::Unsaid,
+            // A word that isn't understood may be a misspelled one for it.
+            (Said::Unsaid, _) => self.unknown.is_some() || self.has_title,
+            (said, _) => said == Said::One(form),
         };
         let order = machine.endianness().ok();
         has_machine

@@ -87,16 +87,16 @@ impl Dialect {
         };
         let (start, found) = self.read_end(file, ['-', '_', '.'])?;
         let is_archive = matches!(self, Dialect::Go | Dialect::Node | Dialect::Rust);
-        let may_be = |it: &Sense<'_>| match is_archive {
-            true => Evidence::of(file).names(it),
-            false => may_be_package(&file[..start], &it.triple),
-        };
-        Some(found).filter(|it| it.as_ref().map_or(true, may_be))
+        match found {
+            Ok(it) if is_archive => Evidence::of(file).names(&it).then_some(Ok(it)),
+            Ok(it) => package_of(&file[..start], it).map(Ok),
+            Err(_) => Some(found),
+        }
     }
 
     /// Of a package, without its scope and version: the longest end that is a platform, after a dash or whole. Without
     /// a scope the words before it say nothing of a target, and none says another byte order: Node's `ppc64` is
-    /// little-endian.
+    /// little-endian. Nor is one `armhf`, which is of another version of Arm to each tool.
     fn read_package(self, text: &str) -> Option<Found> {
         let scoped = text.split_once('@').and_then(|it| it.1.split_once('/'));
         let name = scoped.map_or(text, |it| it.1).split(['@', '/']).next()?;
@@ -106,7 +106,12 @@ impl Dialect {
             Some(said) => said.endianness() == it.triple.architecture.endianness(),
             None => true,
         };
-        let is_package = || found.as_ref().map_or(false, has_order) && says_nothing();
+        let says_floats = |it: &str| {
+            let evidence = Evidence::of(it);
+            evidence.machine() != Said::Unsaid && evidence.floats != Said::Unsaid
+        };
+        let is_package =
+            || found.as_ref().map_or(false, has_order) && says_nothing() && !name.split('-').any(says_floats);
         (scoped.is_some() || is_package()).then_some(found)
     }
 
@@ -323,10 +328,11 @@ fn on_android(triple: TripleRef<'static>) -> TripleRef<'static> {
     }
 }
 
-/// Whether what comes before the architecture of a package's file says nothing else: a system, unless it names a machine too, for
-/// which the package then has a tool, or a C library. Raspbian's Arm is older than Debian's, and Termux has the name of Debian's oldest.
-fn may_be_package(before: &str, triple: &TripleRef<'_>) -> bool {
-    let evidence = Evidence::of(before);
+/// What a package is for whose file has this before its architecture: of the machine's level if words say one, as in openSUSE's
+/// `libz1-x86-64-v3`. `None` if they say something else: a system, unless they name a machine too, for which the package then has a
+/// tool, or a C library. Raspbian's Arm is older than Debian's, and Termux has the name of Debian's oldest.
+fn package_of(before: &str, sense: Sense<'static>) -> Option<Sense<'static>> {
+    let (evidence, triple) = (Evidence::of(before), &sense.triple);
     let is_tool = evidence.machine() != Said::Unsaid;
     let is_arm = matches!(triple.architecture, Architecture::Arm(_));
     let is_v7 = triple.architecture == Architecture::Arm(ArmArchitecture::Armv7);
@@ -335,10 +341,12 @@ fn may_be_package(before: &str, triple: &TripleRef<'_>) -> bool {
         ["raspbian", "rpi", "rpt"].contains(&word)
     };
     let mut words = before.split(|it: char| !it.is_ascii_alphanumeric());
-    (is_tool || evidence.system == Said::One("none") || evidence.allows_system(triple))
+    let may_be = (is_tool || evidence.system == Said::One("none") || evidence.allows_system(triple))
         && evidence.allows_library(triple)
         && !(is_arm && FloatAbi::of(triple).is_none())
-        && !(is_v7 && words.any(is_of_raspbian))
+        && !(is_v7 && words.any(is_of_raspbian));
+    let level = if sense.level.is_empty() { evidence.level_of(triple.architecture) } else { sense.level };
+    may_be.then_some(Sense { level, ..sense })
 }
 
 /// Whether a text is numbers with dots between them.

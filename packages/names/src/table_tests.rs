@@ -208,7 +208,7 @@ fn names_with_a_version_are_read() {
             }
         }
     });
-    assert!(named > 400, "{named}");
+    assert!(named > 350, "{named}");
     // A version has a place in a row, and is one of its system or C library.
     let (glibc, android) = ("manylinux_*_*_x86_64", "android_*_x86");
     assert!(has_version(2, 17, glibc) && !has_version(3, 0, glibc));

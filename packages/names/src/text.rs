@@ -3,7 +3,7 @@ use crate::buffer::Buffer;
 use crate::evidence::{only_machine, said};
 use crate::hints::LONGEST_PATH;
 use crate::meanings::meaning_with;
-use crate::near::{is_of_tool, near};
+use crate::near::{ends_with_digit, is_of_tool, near};
 use crate::suggestions::{architecture_of, edits_between, known_names, vendor_suggestion};
 use crate::{Dialect, Evidence, Meaning, Meant, NameOf, Said, Sense};
 use core::fmt::Write;
@@ -29,8 +29,8 @@ use target_lexicon::{Architecture, Field, OperatingSystem, TextPart, TripleRef, 
 /// 4. a name of a machine only, such as `arm64`, as the value of a key with `target`, `triple`, `platform` or `arch` in
 ///    it.
 ///
-/// Of a word that is none of these, a part between slashes is given, or else one between dots, if it is one: that of
-/// `target/wasm32-wasip1/release` or of `[target.wasm32-wasip1]`. A word is a part of a pattern, and isn't given, if
+/// Of a word that is none of these, a part between slashes is given, or else one between dots and after a number, if it
+/// is one: that of `target/wasm32-wasip1/release` or of `[target.wasm32-wasip1]`. A word is a part of a pattern, and isn't given, if
 /// one of `$*%<>{}?` is next to a dash of it, or before a digit: `${ARCH}-linux`, `i?86-linux`. So keys, versions and
 /// the labels of runners aren't given. Nor is a name of which no word says a machine or a system, such as `js/wasm`.
 ///
@@ -244,7 +244,14 @@ impl<'a> TargetsIn<'a> {
             }
             let slashes = word.split('/').skip_while(|it| it.len() == word.len());
             let dots = word.split(['/', '.']).skip_while(|it| it.len() == word.len());
-            let mut parts = once(word).chain(slashes).chain(dots).map(trimmed);
+            // What begins within a number goes on after it: `0-x86_64-linux` of `1.0-x86_64-linux`.
+            let after_number = |it: &'a str| {
+                let before = word[..it.as_ptr() as usize - word.as_ptr() as usize].strip_suffix('.');
+                let rest = it.trim_start_matches(|it: char| it.is_ascii_digit());
+                let is_within = before.map_or(false, ends_with_digit) && rest.starts_with(['-', '_']);
+                if is_within { rest } else { it }
+            };
+            let mut parts = once(word).chain(slashes).chain(dots.map(after_number)).map(trimmed);
             if self.is_check {
                 // What is a target says that the rest is something else: `x86_64-apple-darwin.runner`. A name may be in
                 // that of a program, of which GNU takes any vendor: `aarch64-linux-gnu-gcc`.
@@ -254,9 +261,9 @@ impl<'a> TargetsIn<'a> {
                 // What ends within a number is no word: `linux-android-clang3` of `clang3.8`.
                 let is_cut = |it: &&str| {
                     let end = it.as_ptr() as usize - word.as_ptr() as usize + it.len();
-                    let is_number = |it: Option<char>| it.map_or(false, |it| it.is_ascii_digit());
                     let after = word[end..].strip_prefix('.');
-                    is_number(it.chars().next_back()) && after.map_or(false, |it| is_number(it.chars().next()))
+                    let goes_on = |it: &str| it.starts_with(|it: char| it.is_ascii_digit());
+                    ends_with_digit(it) && after.map_or(false, goes_on)
                 };
                 let whole = parts.clone().filter(|it| !is_cut(it));
                 let ends = whole.clone().flat_map(ends).flatten().filter(|it| it.matches('-').count() > 1);
@@ -405,7 +412,7 @@ fn may_be_given(word: &str, is_value: bool) -> bool {
         true => only_machine(word).is_none(),
         false => may_have_parts && evidence.system != Said::Unsaid,
     };
-    !evidence.is_empty() && (is_value || has_parts())
+    !evidence.is_empty() && (is_value && evidence.has_machine() || has_parts())
 }
 
 /// Whether a word of running text is given, and as what.
@@ -414,7 +421,7 @@ fn given(word: &str, is_value: bool) -> Option<WordIs<'_>> {
     let is_given = match is {
         WordIs::Name(_) => is_value || is_whole(word),
         WordIs::Misspelled(_) => word.contains(['-', '/']),
-        WordIs::Unknown => is_of_unknown_system(word),
+        WordIs::Unknown => is_of_unknown_system(word) || is_value && is_near_name(word),
     };
     is_given.then_some(is)
 }
