@@ -27,6 +27,7 @@ use core::ops::Range;
 use core::str::FromStr as _;
 use target_lexicon::{
     Architecture, ArmArchitecture, Endianness, Environment, Field, OperatingSystem, PointerWidth, TripleRef, VendorRef,
+    X86_32Architecture,
 };
 
 /// What words say of a property.
@@ -179,7 +180,10 @@ impl<'a> Evidence<'a> {
             let after = self.text[word.end..].strip_prefix('.').unwrap_or("");
             let goes_on = after.starts_with(|it: char| it.is_ascii_digit());
             let is_joined = joint == Some(b'_') && text.len() < 4;
-            let is_part = before == Some(Kind::Machine) && (is_joined || self.is_any_arm && text.len() < 3) && !goes_on;
+            let may_be_64 = matches!(self.machine, Said::One(Architecture::X86_32(_))) && is_of_64(text);
+            let is_part = before == Some(Kind::Machine)
+                && (is_joined || may_be_64 || self.is_any_arm && text.len() < 3)
+                && !goes_on;
             let is_part = is_part || before == Some(Kind::Gnu) && text != "2";
             // What a platform has after its machine is a level.
             let is_level = before == Some(Kind::Machine) && joint == Some(b'/') && (text.starts_with('v') || !goes_on);
@@ -350,6 +354,10 @@ impl<'a> Evidence<'a> {
                 Said::One(FloatAbi::Soft) => Said::One(Architecture::Arm(ArmArchitecture::Armv5te)),
                 _ => Said::One(it),
             },
+            // Alpine's `x86` is the i586.
+            Said::One(Architecture::X86_32(_)) if self.is_of_alpine => {
+                Said::One(Architecture::X86_32(X86_32Architecture::I586))
+            }
             said => said,
         }
     }
@@ -445,18 +453,6 @@ impl<'a> Evidence<'a> {
         let triple = &sense.triple;
         let machine = triple.architecture;
         let is_arm = matches!(machine, Architecture::Arm(_) | Architecture::Aarch64(_));
-        let has_no_version = match machine {
-            Architecture::Arm(it) => matches!(it, ArmArchitecture::Arm | ArmArchitecture::Armv8),
-            _ => true,
-        };
-        let has_machine = match self.machine() {
-            // A word such as `arm` says no version.
-            Said::Unsaid => !self.is_any_arm || is_arm && has_no_version,
-            Said::One(it) => {
-                is_at_most((it, ""), (machine, "")) && (is_at_most((machine, ""), (it, "")) || has_no_level(it))
-            }
-            Said::Contradicted => false,
-        };
         let own_width = machine.pointer_width().ok();
         let width = triple.pointer_width().ok();
         let has_width = match self.width {
@@ -472,7 +468,7 @@ impl<'a> Evidence<'a> {
             (said, _) => said == Said::One(form),
         };
         let order = machine.endianness().ok();
-        has_machine
+        self.allows_machine(machine)
             && !self.is_other_machine
             && order.map_or(true, |it| self.order.allows(it))
             && has_width
@@ -485,6 +481,21 @@ impl<'a> Evidence<'a> {
                 None => self.floats == Said::Unsaid || is_arm && self.floats.one().is_some(),
             }
             && (self.library == Said::Unsaid || self.library == Said::One(library))
+    }
+
+    /// Whether the machine may be this: it is the one of the words, or of a level where they say none.
+    fn allows_machine(&self, machine: Architecture) -> bool {
+        match (self.machine(), machine) {
+            // A word such as `arm` says no version.
+            (Said::Unsaid, Architecture::Arm(it)) => {
+                !self.is_any_arm || matches!(it, ArmArchitecture::Arm | ArmArchitecture::Armv8)
+            }
+            (Said::Unsaid, _) => !self.is_any_arm || matches!(machine, Architecture::Aarch64(_)),
+            (Said::One(it), _) => {
+                is_at_most((it, ""), (machine, "")) && (is_at_most((machine, ""), (it, "")) || has_no_level(it))
+            }
+            (Said::Contradicted, _) => false,
+        }
     }
 
     /// Whether the system may be that of a triple. Tools say `wasi` of its first preview.
@@ -753,6 +764,11 @@ pub(crate) fn order_of(word: &str) -> Option<Endianness> {
     let of = |letters: [&str; 2]| letters.into_iter().any(has);
     let little = of(["el", "le"]).then_some(Endianness::Little);
     little.or_else(|| of(["eb", "be"]).then_some(Endianness::Big))
+}
+
+/// Whether a number may be a misspelled 64.
+fn is_of_64(word: &str) -> bool {
+    word.bytes().all(|it| matches!(it, b'4' | b'6'))
 }
 
 fn is_number(word: &str) -> bool {

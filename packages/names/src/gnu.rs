@@ -7,7 +7,7 @@ use crate::shape::usual_vendor;
 use crate::spelled::{is_like_system, is_of_machine, may_be_versioned};
 use crate::suggestions::is_dropped_version;
 use crate::table::{refusals, KERNELS, MAKERS, NOT_MACHINES, NOT_SYSTEMS, OTHER_MAKERS, SYSTEMS};
-use crate::{Evidence, NameError, Said};
+use crate::{suggestion, Evidence, NameError, Said};
 use core::fmt::Write;
 use target_lexicon::{BinaryFormat, Environment, Field, OperatingSystem, Refusal, TripleRef, VendorRef};
 
@@ -116,6 +116,12 @@ fn is_word_of_system(part: &str) -> bool {
     part != "none" && Evidence::of(part).system != Said::Unsaid
 }
 
+/// Whether a part is a custom vendor that resembles a system, as `liux` does.
+fn is_near_system(part: &str) -> bool {
+    let is_custom = VendorRef::from_str(part).map_or(false, |it| it.is_custom());
+    is_custom && suggestion(Field::OperatingSystem, part).is_some()
+}
+
 fn is_one_of(names: &[&str], part: &str) -> bool {
     names.iter().any(|name| may_be_versioned(part, name))
 }
@@ -139,6 +145,8 @@ fn complete(triple: &TripleRef<'_>, parts: &Parts<'_>) -> Result<TripleRef<'stat
     let library = library_and_abi(triple.environment).0;
     let (system, has_kernel) = (triple.operating_system, parts.kernel.is_some());
     let (operating_system, environment) = match (system, triple.environment, has_kernel) {
+        // Where no system is said, a misspelled one isn't a maker.
+        (System::Unknown, _, false) if is_near_system(parts.maker) => return refused(refusals::MAKER),
         (.., true) if parts.system.map_or(false, is_format) => return refused(refusals::KERNEL),
         (System::Linux, Unknown, _) => (System::Linux, Gnu),
         (System::Linux, Environment::None | Spe, _) => return refused(refusals::KERNEL),

@@ -6,6 +6,7 @@ use crate::buffer::Buffer;
 use crate::dialect::Row;
 use crate::evidence::{only_machine, says_nothing};
 use crate::levels::{is_at_most, level_of};
+use crate::shape::unversioned;
 use crate::suggestions::{
     edits_between, fit_alone, is_near_other, machine_of, meant, vendor_suggestion, visible, Form, Machine, Place,
     Suggest as _, Suggestion,
@@ -16,7 +17,7 @@ use crate::{changes, read, Dialect, Evidence, FloatAbi, NameError, Said};
 use core::cell::Cell;
 use core::fmt::{self, Write as _};
 use core::ops::Range;
-use target_lexicon::{Architecture, PointerWidth, Refusal, Source, TextPart, TripleRef, VendorRef};
+use target_lexicon::{Architecture, OperatingSystem, PointerWidth, Refusal, Source, TextPart, TripleRef, VendorRef};
 
 /// What is wrong with a name that a dialect doesn't have. `Display` says it.
 #[derive(Clone, Copy, Debug, PartialEq, Eq)]
@@ -194,15 +195,15 @@ impl Dialect {
 struct Hints<'a> {
     name: &'a str,
     evidence: Evidence<'a>,
-    /// The machine of the nearest names of all tools, once they are looked for.
-    machines_near: Cell<Option<Said<Machine>>>,
+    /// The machine and the system of the nearest names of all tools, once they are looked for.
+    near: Cell<Option<(Said<Machine>, Said<OperatingSystem>)>>,
 }
 
 impl<'a> Hints<'a> {
     /// A longer name gets no hint, so that none takes long.
     fn of(name: &'a str) -> Option<Self> {
         let is_short = name.len() <= LONGEST_PATH;
-        is_short.then(|| Hints { name, evidence: Evidence::of(name), machines_near: Cell::new(None) })
+        is_short.then(|| Hints { name, evidence: Evidence::of(name), near: Cell::new(None) })
     }
 
     /// The answer of [`Dialect::suggestion`].
@@ -230,10 +231,12 @@ impl<'a> Hints<'a> {
         let known = named.and_then(|it| dialect.name_with_floats_of(&it));
         let known = known.or_else(|| dialect.name_of_machine(name));
         let found = known.or_else(|| self.nearest(dialect))?;
-        let machine = machine_of(dialect.read(found).ok()?.architecture);
+        let (machine, system) = target_of(&dialect.read(found).ok()?);
         // Of `aremb` the byte order of `armeb` is nearer than that of `arm`.
         let is_other = evidence.machine() == Said::Unsaid && name.split(SIGNS).any(|it| is_near_other(it, machine));
-        (!is_other && self.machines_near().allows(machine)).then_some(found)
+        let (machines, systems) = self.near();
+        let is_near = machines.allows(machine) && (known.is_some() || systems.allows(system));
+        (is_near && !is_other).then_some(found)
     }
 
     /// The nearest name that contradicts nothing which the words say.
@@ -257,35 +260,48 @@ impl<'a> Hints<'a> {
         )
     }
 
-    /// Whether no word of a row says another machine than one of the name. Words may mean other machines to a tool than elsewhere.
-    fn may_say_machine_of(&self, row: &Row) -> bool {
-        let (own, other) = (self.evidence.machine(), Evidence::of(row.0).machine());
-        own == other || own == Said::Unsaid || other == Said::Unsaid
+    /// Whether no word of a row says another machine or system than one of the name. Words may mean other machines to a tool than elsewhere.
+    fn may_say_target_of(&self, row: &Row) -> bool {
+        let (own, other) = (&self.evidence, Evidence::of(row.0));
+        let [machine, other_machine] = [own.machine(), other.machine()];
+        (machine == other_machine || machine == Said::Unsaid || other_machine == Said::Unsaid)
+            && (own.system == other.system || own.system == Said::Unsaid || other.system == Said::Unsaid)
     }
 
-    /// The machine of the nearest names of all tools.
-    fn machines_near(&self) -> Said<Machine> {
-        let found = self.machines_near.get().unwrap_or_else(|| {
-            let (mut machines, mut edits) = (Said::Unsaid, usize::MAX);
+    /// The machine and the system of the nearest names of all tools.
+    fn near(&self) -> (Said<Machine>, Said<OperatingSystem>) {
+        let found = self.near.get().unwrap_or_else(|| {
+            let (mut found, mut edits) = ((Said::Unsaid, Said::Unsaid), usize::MAX);
             let rows = Dialect::ALL.iter().flat_map(|it| it.rows_of(lengths_near(self.name)));
             let name = joined(self.name);
             for row in rows {
                 let own = edits_between(name.as_str().as_bytes(), joined(row.0).as_str());
                 let own = own.filter(|it| *it <= edits);
-                let Some(own) = own.filter(|_| self.may_say_machine_of(row)) else {
+                let Some(own) = own.filter(|_| self.may_say_target_of(row)) else {
                     continue;
                 };
                 if own < edits {
-                    (machines, edits) = (Said::Unsaid, own);
+                    (found, edits) = ((Said::Unsaid, Said::Unsaid), own);
                 }
-                let triple = TripleRef::from_str(row.1).ok();
-                triple.iter().for_each(|it| machines.add(machine_of(it.architecture)));
+                if let Ok((machine, system)) = TripleRef::from_str(row.1).map(|it| target_of(&it)) {
+                    found.0.add(machine);
+                    found.1.add(system);
+                }
             }
-            machines
+            found
         });
-        self.machines_near.set(Some(found));
+        self.near.set(Some(found));
         found
     }
+}
+
+/// The machine and the system of a triple, without their versions. Tools say `wasi` of its first preview.
+fn target_of(triple: &TripleRef<'_>) -> (Machine, OperatingSystem) {
+    let system = match unversioned(triple.operating_system) {
+        OperatingSystem::WasiP1 => OperatingSystem::Wasi,
+        other => other,
+    };
+    (machine_of(triple.architecture), system)
 }
 
 /// How many signs of a name are between two numbers.
@@ -371,23 +387,29 @@ impl<'a> Meant<'a> {
     #[must_use]
     pub fn by(word: &'a str) -> Option<Meant<'a>> {
         let hints = Hints::of(word)?;
-        let of_triple = Meant::of_triple(word).filter(|it| it.is_target(&hints.evidence));
-        of_triple.or_else(|| {
-            let evidence = &hints.evidence;
-            let is_known = match (evidence.machine(), evidence.system) {
-                (Said::Unsaid, _) => false,
-                (_, Said::Unsaid) => evidence.unknown.is_none() && !evidence.has_title,
-                _ => true,
-            };
-            if is_known {
-                return None;
-            }
-            let mut names = Dialect::ALL.iter().filter_map(|it| hints.name_of(*it));
-            let name = names.find(|name| !word.contains(name))?;
+        let evidence = &hints.evidence;
+        let of_triple = Meant::of_triple(word).filter(|it| it.is_target(evidence));
+        let is_known = match (evidence.machine(), evidence.system) {
+            (Said::Unsaid, _) => false,
+            (_, Said::Unsaid) => evidence.unknown.is_none() && !evidence.has_title,
+            _ => true,
+        };
+        if is_known {
+            return of_triple;
+        }
+        let names = Dialect::ALL.iter().filter_map(|it| hints.name_of(*it));
+        let names = names.filter(|name| !word.contains(name));
+        let of_tools = names.map(|name| {
             let name = with_signs_of(word, name).unwrap_or(name);
-            let part = TextPart { text: word, start: 0 };
-            Some(Meant { word, part, suggestion: Suggestion::of(name) })
-        })
+            Meant { word, part: TextPart { text: word, start: 0 }, suggestion: Suggestion::of(name) }
+        });
+        of_triple.into_iter().chain(of_tools).min_by_key(Meant::edits)
+    }
+
+    /// The edits between the word and what was perhaps meant.
+    fn edits(&self) -> usize {
+        let word = &self.word.as_bytes()[self.part.range()];
+        edits_between(word, self.suggestion.names).unwrap_or(usize::MAX)
     }
 
     /// With another part than the refused one, or than a custom vendor.

@@ -249,7 +249,11 @@ impl<'a> TargetsIn<'a> {
                 let before = word[..it.as_ptr() as usize - word.as_ptr() as usize].strip_suffix('.');
                 let rest = it.trim_start_matches(|it: char| it.is_ascii_digit());
                 let is_within = before.map_or(false, ends_with_digit) && rest.starts_with(['-', '_']);
-                if is_within { rest } else { it }
+                if is_within {
+                    rest
+                } else {
+                    it
+                }
             };
             let mut parts = once(word).chain(slashes).chain(dots.map(after_number)).map(trimmed);
             if self.is_check {

@@ -117,7 +117,10 @@ its words say x86_64, linux; here nobody knows `FOO`=linux-x64-FOOBar, linux-x64
 its words name armv7-unknown-linux-ohos=armv7-ohos
 its words say arm, hard-float, linux, uclibc; here nobody knows `foo`=armhf-linux-uclibc-foo
 its words may be of two targets: x86_64, linux, musl=sdk_musl.Linux-x86_64, musl-builder-linux-x64
-its words name x86_64-unknown-linux-musl=fd-musl_1.2.0_linux-x64";
+its words name x86_64-unknown-linux-musl=fd-musl_1.2.0_linux-x64
+its words name i586-unknown-linux-musl=alpine-3.19-x86
+its words name arm-unknown-linux-eabihf=rust-analyzer-linux-armhf
+its words say i686, windows; here nobody knows `664`=win32-x86-664";
 
 #[test]
 fn evidence_is_said_in_a_sentence() {
@@ -131,7 +134,7 @@ fn evidence_is_said_in_a_sentence() {
 /// A triple, or why there is none, and after `=` the names of GNU.
 const OF_GNU: &str = "\
 aarch64-linux-android=aarch64-android-linux
-!to config.sub its second part is a maker, or another machine's=x86_64-mips, powerpc-vxworks-spe, x86_64-vxworks-gnu, \
+!to config.sub its second part is a maker, or another machine's=x86_64-liux-gnu, x86_64-mips, powerpc-vxworks-spe, x86_64-vxworks-gnu, \
     x86_64-linux-gnu-elf, arm-freebsd-gnueabihf, x86_64-linux-linux-gnu, x86_64-windows-linux-gnu, \
     x86_64-mint-linux-gnu, x86_64-next2-linux-gnu, x86_64-gnu-linux, x86_64-eabi-linux-gnu, x86_64-win-linux, \
     x86_64-kfreebsd8-linux-gnu, x86_64-kfreebsd-musl
@@ -347,7 +350,10 @@ fn triples_have_names_or_reasons() {
 const SUGGESTED: &str = "\
 -=go aux/ppc64, go aux7/ppc64, rust x86_64-unknown-linux-gnux, go linux/amr64, node linux-adm64, gnu linux-ppc64--gnu, \
     debian powerpcel, zig x86-lynx, apk arm-vx7, debian arm-elf, node x86-64, gnu x86-64, rust mipsel-sony-psx, \
-    debian powerpcle, gnu arceb-linux-gnu, node linux-x32, debian armv6
+    debian powerpcle, gnu arceb-linux-gnu, node linux-x32, debian armv6, rust aarch64-apple-ios-iso, node openuse-x64, \
+    conda os-arm64, gnu armb-linux-gnueabi, zig arme-linux-gnueabi, debian spirv64
+linux/arm64=go nilux/arm64
+opensuse-x64=dotnet openuse-x64
 aix/ppc64=go aix/ppc46
 linux-x64=node 1.2-linux-amd64
 aarch64-macos-none=zig aarch64-macosx-none
@@ -364,7 +370,7 @@ const LEVELS: &str = "\
 v4=rpm foo-1-1.x86_64_v4.rpm
 neon=rpm foo-1-1.armv7hnl.rpm
 power7=rpm glibc-2.17-317.el7.ppc64p7.rpm
-v3=debian libc6:amd64v3, debian foo_1.0-1_amd64v3.deb, pacman bash-5.2-1-x86_64_v3.pkg.tar.zst, go linux_amd64_v3, \
+v3=rpm libz1-x86-64-v3-1.2.13-1.1.x86_64.rpm, debian libc6:amd64v3, debian foo_1.0-1_amd64v3.deb, pacman bash-5.2-1-x86_64_v3.pkg.tar.zst, go linux_amd64_v3, \
     go foo_1.2_linux_amd64_v3.tar.gz
 =go linux_amd64_v1
 power9=go linux_ppc64le_power9
@@ -405,8 +411,9 @@ fn hints_keep_the_machine() {
     for (at, (name, own)) in machines.iter().enumerate() {
         for i in (at % 5..name.len()).step_by(5).filter(|i| name.is_char_boundary(*i) && name.is_ascii()) {
             let (before, after) = name.split_at(i);
-            let swapped = after.get(..2).map(|two| two.chars().rev().collect::<String>() + &after[2..]);
-            let edited = [Some(after[1..].to_string()), Some(after[..1].to_string() + after), swapped];
+            let swapped = |n| Some(after.get(..n)?.chars().rev().collect::<String>() + &after[n..]);
+            let far = swapped(3).filter(|_| after[..3].bytes().all(|it| it.is_ascii_lowercase()));
+            let edited = [Some(after[1..].to_string()), Some(after[..1].to_string() + after), swapped(2), far];
             for edited in edited.into_iter().flatten().map(|it| before.to_string() + &it) {
                 let is_right = |it: &(Dialect, &str)| own.contains(&machine(&it.0.read(it.1).unwrap().to_string()));
                 let mut hints = Dialect::ALL.iter().filter_map(|it| Some((*it, it.suggestion(&edited)?)));

@@ -47,6 +47,7 @@ const ROWS: &[(&str, &[&str])] = &[
         "foo bar x86_64-foo-msvc", "foo bar i368-w64-mingw32", "foo bar x86_64-foo-foo-gnu", "foo bar x86_64-unknown",
         "foo bar a_b", "foo bar x86_64", "foo bar arm-based x86-64-v2", "foo bar amd64-linxu",
         "foo bar x86_64-linux-gnux86_64-linux-gnux86_64-linux-gnu", "hierarchical: amd64 x", "archive: amd64 x",
+        "platform: linux x", "platform: win32 x",
     ]),
     ("linux/amd64 é! x86_64-linux", &["linux/amd64,é,x86_64-linux"]),
     ("arm64-linux avr amd64", &[
@@ -101,6 +102,9 @@ const ROWS: &[(&str, &[&str])] = &[
     ("amd64-linx", &["target: amd64-linx x"]),
     ("x86_64-linx>x86_64-linux", &["foo bar x86_64-linx"]),
     ("x86_64-unknown-foo-gnu!", &["foo bar x86_64-unknown-foo-gnu"]),
+    ("linux/amr64!", &["platform: linux/amr64 x"]),
+    ("aarch64-aple-darwin>aarch64-apple-darwin", &["foo tool-v1.0-aarch64-aple-darwin"]),
+    ("aarch64-lunix>aarch64-linux", &["foo aarch64-lunix"]),
 ];
 
 #[test]

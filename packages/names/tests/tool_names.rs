@@ -163,7 +163,7 @@ fn lines_are_those_of_rustc() {
 
 /// For each field a name, or `-` for none, and after `=` the strings for which it should be suggested.
 const OPERATING_SYSTEMS: &str = "\
-linux=linx lniux Linux LINUX linux5.10 Linux5.10 linux5.10.3
+linux=linx lniux lunix Linux LINUX linux5.10 Linux5.10 linux5.10.3
 darwin=darwim darwin20.1.2.3
 windows=widows windows10 windows.win10
 solaris=solart
@@ -214,7 +214,7 @@ musl=musl msul
 elf=efl
 gnu=gnuu gnus
 gnueabihf=gnueabihf2.31
--=gnux ocos mingw32 gnuabi glibc gnuabi32 iso17 macos14 linux5.10 ela gnueabihff gnux3";
+-=gnux muslsf gnusf ocos mingw32 gnuabi glibc gnuabi32 iso17 macos14 linux5.10 ela gnueabihff gnux3";
 
 const BINARY_FORMATS: &str = "\
 macho=mahco
