@@ -72,8 +72,8 @@ def of_c(lists):
         lines += block(comment(ABOUT.get(name)), f"enum lexicon_{name} {{", members, "};")
     about = "What a compiler asks about a triple. 0 is no answer. A later version adds members at the end."
     lines += block(comment(about), "struct lexicon_triple_facts {", lists.pop("the facts for C"), "};")
-    lines += ["", "/* The names of families, from 0 on; of dialects, from 1 on; other names of dialects; and the names of",
-              "   answers, from 1 on. */"]
+    lines += ["", "/* The names of families, from 0 on; of dialects, from 1 on; other names of dialects; and the names",
+              "   of answers, from 1 on. */"]
     for name, of in {"FAMILY": "the names of families", "DIALECT": "the dialects' names",
                      "OTHER_DIALECT": "the other names of dialects",
                      **{kind.upper(): f"the names of {kind}" for kind in ENUMS}}.items():

@@ -404,8 +404,8 @@ struct lexicon_triple_facts {
   bool has_comdat; /* whether the object format has COMDAT sections */
 };
 
-/* The names of families, from 0 on; of dialects, from 1 on; other names of dialects; and the names of
-   answers, from 1 on. */
+/* The names of families, from 0 on; of dialects, from 1 on; other names of dialects; and the names
+   of answers, from 1 on. */
 #define LEXICON_FAMILY_NAMES \
   "unknown", "arm", "amdgcn", "aarch64", "asmjs", "avr", "bpfeb", "bpfel", "hexagon", "x86_32", "m68k", \
   "loongarch64", "mips32", "mips64", "msp430", "nvptx64", "pulley32", "pulley64", "pulley32be", "pulley64be", \

@@ -1,6 +1,6 @@
-/* Makes the calls of calls.c with arbitrary bytes and arbitrary structs, and checks what the header promises of each: for
-   libFuzzer, or, with -DLINES, with each line of the input. Each string, struct and buffer ends where a page ends that
-   may not be touched, so that the library is watched too, which has no sanitizer. */
+/* Makes the calls of calls.c with arbitrary bytes and arbitrary structs, and checks what the header promises of each:
+   for libFuzzer, or, with -DLINES, with each line of the input. Each string, struct and buffer ends where a page ends
+   that may not be touched, so that the library is watched too, which has no sanitizer. */
 #define _DEFAULT_SOURCE
 #define PROMISES
 #include <sys/mman.h>
@@ -210,7 +210,8 @@ static void try_structs(struct input *input) {
   struct lexicon_triple a = first->triple, b = second->triple;
   EXPECT(lexicon_equal(&a, &b) == lexicon_equal(&b, &a));
   bool are_same_target = lexicon_same_target(&a, &b);
-  EXPECT(lexicon_settle(&a) == LEXICON_OK && lexicon_settle(&b) == LEXICON_OK && lexicon_equal(&a, &b) == are_same_target);
+  EXPECT(lexicon_settle(&a) == LEXICON_OK && lexicon_settle(&b) == LEXICON_OK);
+  EXPECT(lexicon_equal(&a, &b) == are_same_target);
 }
 
 /* ---- strings */
@@ -333,13 +334,14 @@ static void try_parts(const struct asked *it, bool is_utf8) {
   for (at = last = 0; at < found && at < 3; last = targets[at++].end)
     EXPECT(last <= targets[at].start && targets[at].start <= targets[at].end && targets[at].end <= it->size);
   status = lexicon_check(it->text, it->size, wrong, 3, &found);
-  EXPECT(status == (found > 3 ? LEXICON_TOO_SMALL : LEXICON_OK) && is_filled(&wrong[found < 3 ? found : 3], sizeof *wrong));
+  EXPECT(status == (found > 3 ? LEXICON_TOO_SMALL : LEXICON_OK));
+  EXPECT(is_filled(&wrong[found < 3 ? found : 3], sizeof *wrong));
   for (at = last = 0; at < found && at < 3; last = wrong[at++].word.end) {
     const struct lexicon_part word = wrong[at].word;
     part = wrong[at].part;
     EXPECT(last <= word.start && word.start <= part.start && part.start < part.end && part.end <= word.end);
-    EXPECT(word.end <= it->size && wrong[at].kept <= part.end - part.start && (wrong[at].names != NULL || !wrong[at].kept));
-    EXPECT((wrong[at].names != NULL) == (wrong[at].names_size > 0) && wrong[at].status != LEXICON_OK);
+    EXPECT(word.end <= it->size && wrong[at].kept <= part.end - part.start && wrong[at].status != LEXICON_OK);
+    EXPECT((wrong[at].names != NULL) == (wrong[at].names_size > 0) && (wrong[at].names != NULL || !wrong[at].kept));
   }
   for (int turn = 0; turn < 2; turn++) {
     fill(meant, sizeof meant);
