@@ -1,10 +1,9 @@
 -- `==` is true exactly for the same values.
-use Rattle.lexicon_fields.proofs.Common.{Bool, List, [], ap, inl, inr, refl, true, ◌&&◌, ◌∷◌, ◌≡◌}
-use Rattle.lexicon_fields.proofs.Common.{Decides, DeploymentTarget, Option, Record, and_parts, false, false≢true, rules}
-use Rattle.std.proofs.lemmas.Bool.Decides.{Decides-like}
-use Rattle.std.specs.{Cmp.Derive.of_values, Option.option_eq}
-use denote.{Enum.Bare.Bare, Enum.Bare.sameb, Enum.Bare.true_same, Enum.Compared.Each, Enum.Compared.by}
-use denote.{Enum.Bare.same_true, Enum.Declared.Choice, Enum.Declared.Declared, Struct.Field.Field, Struct.Values.Values}
+use Rattle.lexicon_fields.proofs.Common.{Bool, Decides, DeploymentTarget, List, Option, Record, [], and_parts, ap}
+use Rattle.lexicon_fields.proofs.Common.{false, false≢true, inl, inr, refl, rules, true, ◌&&◌, ◌∷◌, ◌≡◌}
+use Rattle.std.{proofs.lemmas.Bool.Decides.Decides-like, specs.Cmp.Derive.of_values, specs.Option.option_eq}
+use denote.Enum.{Bare.Bare, Bare.same_true, Bare.sameb, Bare.true_same, Compared.Each, Compared.by, Declared.Choice}
+use denote.{Enum.Declared.Declared, Struct.Field.Field, Struct.Values.Values}
 use Rattle.lexicon_fields.specs.contracts.deployment_target.DeploymentTargetPartialEq.TheImpl as version
 
 -- variants without fields are equal by their indices
@@ -44,14 +43,12 @@ choices-Decide : (Fss : List (List Field)) (each : Each Bool Fss) → are_bare_e
     → (c d : Choice Fss) → Decides (by false false Fss each c d) (c ≡ d)
 choices-Decide [] each bare decide c d = absurd c
 choices-Decide ([] ∷ Fss) each bare decide (inl x) (inl y) = (λ _. refl, λ _. (and_parts _ _ bare).0)
-choices-Decide ((F ∷ Fs) ∷ Fss) each bare decide (inl x) (inl y) =
-    Decides-like _ (λ same. ap inl same) (λ same. let fields : x ≡ y = cc in fields) (decide.0 x y)
+choices-Decide ((F ∷ Fs) ∷ Fss) each bare decide (inl x) (inl y) = search (rules, Decides-like)
 choices-Decide ([] ∷ Fss) each bare decide (inr x) (inr y) =
     Decides-like _ (λ same. ap inr same) (λ same. let choices : x ≡ y = cc in choices)
     (choices-Decide Fss each.1 (and_parts _ _ bare).1 decide x y)
 choices-Decide ((F ∷ Fs) ∷ Fss) each bare decide (inr x) (inr y) =
-    Decides-like _ (λ same. ap inr same) (λ same. let choices : x ≡ y = cc in choices)
-    (choices-Decide Fss each.1 bare decide.1 x y)
+    search (rules, (choices-Decide Fss each.1 bare decide.1 x y), Decides-like)
 choices-Decide (Fs ∷ Fss) each bare decide _ _ = (λ same. absurd (false≢true same), λ same. absurd cc)
 
 pub enum-Decides : (N : Record) (each : Each Bool N.parts) → are_bare_equal N.parts each ≡ true

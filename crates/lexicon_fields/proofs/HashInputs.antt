@@ -1,11 +1,9 @@
 -- Different values feed a hasher differently.
-use Rattle.lexicon_fields.proofs.Common.{HashInjectiveOn, HashWrites, List, Record, length, rules, tag_of, usize, ◌++◌}
-use Rattle.lexicon_fields.proofs.Common.{[], ap, refl, sym, ℕ, ◌<◌, ◌^◌, ◌∙◌, ◌∷◌, ◌≡◌, ◌≤◌}
-use Rattle.lexicon_fields.proofs.Variants.{EachPair, variants_pair}
-use Rattle.lexicon_fields.specs.Laws.{HashInjective}
-use Rattle.std.proofs.lemmas.List.{append_cancel_left}
-use Rattle.std.specs.Hash.{le_bytes}
-use denote.{Enum.Bare.Bare, Enum.Bare.tag_one, Enum.Declared.declared, Enum.Declared.rowss}
+use Rattle.lexicon_fields.proofs.Common.{HashInjectiveOn, HashWrites, List, Record, [], ap, length, refl, rules, sym}
+use Rattle.lexicon_fields.proofs.Common.{tag_of, usize, ℕ, ◌++◌, ◌<◌, ◌^◌, ◌∙◌, ◌∷◌, ◌≡◌, ◌≤◌}
+use Rattle.lexicon_fields.{proofs.Variants.EachPair, proofs.Variants.variants_pair, specs.Laws.HashInjective}
+use Rattle.std.{proofs.lemmas.List.append_cancel_left, specs.Hash.le_bytes}
+use denote.Enum.{Bare.Bare, Bare.tag_one, Declared.declared, Declared.rowss}
 
 -- the first byte that is fed
 abbrev pub first_byte : HashWrites → ℕ

@@ -1,14 +1,13 @@
 -- The law of names for the five fields of a triple, which proofs of the crates above cite.
-use Rattle.lexicon_fields.proofs.Common.{◌≡◌, true, architecture_name, architecture_of, binary_format_name}
-use Rattle.lexicon_fields.proofs.Common.{binary_format_of, environment_name, environment_of, HasVersionInRange}
-use Rattle.lexicon_fields.proofs.Common.{operating_system_name, operating_system_of, is_plain, vendor_name, vendor_of}
-use Rattle.lexicon_fields.specs.Laws.{NamesReadBack, NamesReadBackOn}
-use Rattle.lexicon_fields.proofs.NamesReadBack.{each-read_back, architecture_of-name, architecture_of-row}
-use Rattle.lexicon_fields.proofs.NamesReadBack.{environment_of-name, environment_of-row, binary_format_of-name}
-use Rattle.lexicon_fields.proofs.NamesReadBack.{binary_format_of-row}
-use Rattle.lexicon_fields.proofs.{LookUpLemmas.of_kind-read_back, OperatingSystemsReadBack.operating_system_of-name}
-use Rattle.lexicon_fields.proofs.{ParsedSystems.operating_system-read, VendorsReadBack.vendor_of-name}
-use Rattle.lexicon_fields.proofs.{VendorsReadBack.vendor_of-dash_free}
+use Rattle.lexicon_fields.proofs.Common.{HasVersionInRange, architecture_name, architecture_of, binary_format_name}
+use Rattle.lexicon_fields.proofs.Common.{binary_format_of, environment_name, environment_of, is_plain}
+use Rattle.lexicon_fields.proofs.Common.{operating_system_name, operating_system_of, true, vendor_name, vendor_of, ◌≡◌}
+use Rattle.lexicon_fields.proofs.{LookUpLemmas.of_kind-read_back, NamesReadBack.architecture_of-name}
+use Rattle.lexicon_fields.proofs.NamesReadBack.{architecture_of-row, binary_format_of-name, binary_format_of-row}
+use Rattle.lexicon_fields.proofs.NamesReadBack.{each-read_back, environment_of-name, environment_of-row}
+use Rattle.lexicon_fields.proofs.OperatingSystemsReadBack.{operating_system_of-name}
+use Rattle.lexicon_fields.proofs.{ParsedSystems.operating_system-read, VendorsReadBack.vendor_of-dash_free}
+use Rattle.lexicon_fields.{proofs.VendorsReadBack.vendor_of-name, specs.Laws.NamesReadBack, specs.Laws.NamesReadBackOn}
 
 pub record NamesAreRead : Type 0 where
   pub architecture : NamesReadBack architecture_name architecture_of

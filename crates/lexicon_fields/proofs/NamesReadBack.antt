@@ -1,13 +1,12 @@
 -- Names of the types whose values are listed: each parses back, and each string that parses is that of a row.
-use Rattle.lexicon_fields.proofs.Common.{List, None, Option, Some, ap, refl, rules, true, ℕ}
-use Rattle.lexicon_fields.proofs.Common.{architecture_name, binary_format_name, binary_format_of, environment_name, ◌∙◌}
-use Rattle.lexicon_fields.proofs.Common.{architecture_of, environment_of, named_values, option_and_then, row_texts, ◌≡◌}
-use Rattle.lexicon_fields.proofs.LookUpLemmas.{of_kind-read_back, value_named-passes}
-use Rattle.lexicon_fields.proofs.RowTexts.{is_row_text, row_text-dash_free}
-use Rattle.lexicon_fields.specs.Laws.{NamesReadBack}
-use Rattle.lexicon_fields.specs.{Architecture.architecture_texts, declared.architecture.Architecture.Architecture}
-use Rattle.lexicon_fields.specs.{BinaryFormat.binary_format_values, declared.binary_format.BinaryFormat.BinaryFormat}
-use Rattle.lexicon_fields.specs.{Environment.environment_values, declared.environment.Environment.Environment}
+use Rattle.lexicon_fields.proofs.Common.{List, None, Option, Some, ap, architecture_name, architecture_of}
+use Rattle.lexicon_fields.proofs.Common.{binary_format_name, binary_format_of, environment_name, environment_of}
+use Rattle.lexicon_fields.proofs.Common.{named_values, option_and_then, refl, row_texts, rules, true, ℕ, ◌∙◌, ◌≡◌}
+use Rattle.lexicon_fields.proofs.{LookUpLemmas.of_kind-read_back, LookUpLemmas.value_named-passes, RowTexts.is_row_text}
+use Rattle.lexicon_fields.{proofs.RowTexts.row_text-dash_free, specs.Architecture.architecture_texts}
+use Rattle.lexicon_fields.specs.{BinaryFormat.binary_format_values, Environment.environment_values, Laws.NamesReadBack}
+use Rattle.lexicon_fields.specs.declared.architecture.Architecture.{Architecture}
+use Rattle.lexicon_fields.specs.declared.{binary_format.BinaryFormat.BinaryFormat, environment.Environment.Environment}
 
 -- names parse back if each parses as its value and each string that parses is that of a row
 pub each-read_back : {V : Type 0} (name : V → List ℕ) (find : List ℕ → Option V) → ((v : V) → find (name v) ≡ Some v)

@@ -1,14 +1,13 @@
 -- How the names of systems are parsed, with their versions: each system parses back from its name.
-use Rattle.lexicon_fields.proofs.Common.{DeploymentTarget, IsVersionInRange, OperatingSystem, Option, option_and_then}
-use Rattle.lexicon_fields.proofs.Common.{HasVersionInRange, bytes_eq-Decides, darwin_like_system, optional_version_of}
-use Rattle.lexicon_fields.proofs.Common.{IfSome, fixed_operating_system_of, operating_system_name, operating_system_of}
-use Rattle.lexicon_fields.proofs.Common.{List, None, Pair, Some, [], drop, refl, sym, take, ◌++◌, ◌∙◌, ◌∷◌, ◌≡◌, ◌≢◌}
-use Rattle.lexicon_fields.proofs.Common.{length, nat_eq, option_map, rules, version_name, version_of, version_suffix, ℕ}
-use Rattle.lexicon_fields.proofs.{Common.ap, VersionsReadBack.version_of-name}
-use Rattle.lexicon_fields.specs.OperatingSystem.{system_with_version, text_after_prefix}
-use Rattle.lexicon_fields.specs.Private.{first_system, version_after}
-use Rattle.std.proofs.lemmas.Bool.{cond-false, cond-true, false_from_ne_true}
-use Rattle.std.proofs.{Math.Seq.drop-append_seam, Math.Seq.take-append_seam, lemmas.List.take-append-drop}
+use Rattle.lexicon_fields.proofs.Common
+use Common.{OperatingSystem, fixed_operating_system_of, operating_system_name, operating_system_of, optional_version_of}
+use Common.{DeploymentTarget, HasVersionInRange, IsVersionInRange, bytes_eq-Decides, darwin_like_system, version_suffix}
+use Common.{IfSome, List, None, Option, length, nat_eq, option_and_then, option_map, rules, version_name, version_of, ℕ}
+use Common.{Pair, Some, [], ap, drop, refl, sym, take, ◌++◌, ◌∙◌, ◌∷◌, ◌≡◌, ◌≢◌}
+use Rattle.lexicon_fields.{proofs.VersionsReadBack.version_of-name, specs.OperatingSystem.system_with_version}
+use Rattle.lexicon_fields.specs.{OperatingSystem.text_after_prefix, Private.first_system, Private.version_after}
+use Rattle.std.proofs.{Math.Seq.drop-append_seam, Math.Seq.take-append_seam, lemmas.Bool.cond-false}
+use Rattle.std.proofs.lemmas.{Bool.cond-true, Bool.false_from_ne_true, List.take-append-drop}
 use Rattle.std.specs.List.{starts_with}
 
 -- a string that begins with a prefix has the rest after it, and every other string has none
@@ -32,8 +31,7 @@ pub first_system-is : (rows : List (Pair (Option DeploymentTarget → OperatingS
     → first_system rows text ≡ darwin_like_system rows text
 unfolding version_after
 first_system-is [] text = refl
-first_system-is (row ∷ rows) text =
-    rw (system_after row.1 (text_after_prefix row.0 text), first_system-is rows text) refl
+first_system-is (row ∷ rows) text = search (rules, (first_system-is rows text), system_after)
 
 -- every system parses back from its name
 

@@ -1,19 +1,19 @@
 -- Strings that parse as a system: they have no dash, the system's version is in range, and its name is at most 4 bytes
 -- longer.
-use Rattle.lexicon_fields.proofs.Common.{Bool, List, Option, Pair, Some, arith, length, nat_eq, nat_le, rules, subst, ℕ}
-use Rattle.lexicon_fields.proofs.Common.{DeploymentTarget, MatchOption-at_some, darwin_like_system, operating_system_of}
-use Rattle.lexicon_fields.proofs.Common.{HasVersionInRange, IfSome, IsVersionInRange, OperatingSystem, bytes_eq-Decides}
-use Rattle.lexicon_fields.proofs.Common.{and_parts, cond_some, leb-true, list_all, ltb-true, version_name, version_of}
-use Rattle.lexicon_fields.proofs.Common.{darwin_prefixes, is_dash_free, length-append, option_and_then, version_suffix}
-use Rattle.lexicon_fields.proofs.Common.{decimal, fixed_operating_system_of, operating_system_name, optional_version_of}
-use Rattle.lexicon_fields.proofs.Common.{◌++◌, ◌+◌, ◌<◌, ◌^◌, ◌∷◌, ◌≡◌, ◌≤◌, [], cond, dash, dot, drop, refl, sym, true}
-use Rattle.lexicon_fields.proofs.LookUpLemmas.{holds-if_read, option_and_then-holds, option_map-holds, option_or-holds}
-use Rattle.lexicon_fields.proofs.{Common.ap, LookUpLemmas.all-dash_free, VersionsReadBack.digits_model}
+use Rattle.lexicon_fields.proofs.Common
+use Common.{MatchOption-at_some, OperatingSystem, fixed_operating_system_of, operating_system_name, operating_system_of}
+use Common.{DeploymentTarget, HasVersionInRange, IsVersionInRange, darwin_like_system, optional_version_of, version_of}
+use Common.{and_parts, bytes_eq-Decides, darwin_prefixes, is_dash_free, length-append, option_and_then, version_suffix}
+use Common.{IfSome, Option, cond_some, decimal, dot, leb-true, length, list_all, ltb-true, nat_eq, nat_le, version_name}
+use Common.{Bool, List, Pair, Some, arith, cond, dash, drop, refl, rules, subst, sym, true, ℕ, ◌++◌, ◌+◌, ◌<◌, ◌^◌, ◌∷◌}
+use Common.{[], ap, ◌≡◌, ◌≤◌}
+use Rattle.lexicon_fields.proofs.LookUpLemmas.{all-dash_free, holds-if_read, option_and_then-holds, option_map-holds}
+use Rattle.lexicon_fields.proofs.{LookUpLemmas.option_or-holds, VersionsReadBack.digits_model}
 use Rattle.lexicon_fields.specs.OperatingSystem.{system_version, system_with_version, text_after_prefix}
 use Rattle.lexicon_fields.specs.Version.{piece_number_within, pieces_of, version_of_numbers, version_of_pieces}
-use Rattle.std.proofs.{lemmas.Bool.eqb-true, lemmas.Bool.not-true, lemmas.Grind.common_steps, lemmas.List.length-drop}
-use Rattle.std.proofs.{lemmas.Fmt.length-decimal-le, lemmas.List.Folds.list_any-append, lemmas.List.take-append-drop}
-use Rattle.std.proofs.{lemmas.List.Splits.join_with_byte-slice_split, lemmas.Str.Parse.digits_value_short}
+use Rattle.std.proofs.lemmas.{Bool.eqb-true, Bool.not-true, Fmt.length-decimal-le, Grind.common_steps}
+use Rattle.std.proofs.lemmas.List.{Folds.list_any-append, Splits.join_with_byte-slice_split, length-drop}
+use Rattle.std.proofs.lemmas.{List.take-append-drop, Str.Parse.digits_value_short}
 use Rattle.std.specs.{Char.is_ascii_digit, List.join_with_byte, Str.Parse.digits_value, Str.Parse.without_leading_plus}
 
 is_dash_free-append : (s t : List ℕ) → is_dash_free s ≡ true → is_dash_free t ≡ true → is_dash_free (s ++ t) ≡ true
@@ -164,8 +164,7 @@ darwin_like_system-read : (rows : List (Pair (Option DeploymentTarget → Operat
     → ArePrefixes rows → IfSome (darwin_like_system rows text) (IsSystemRead text)
 darwin_like_system-read [] text are = tt
 darwin_like_system-read (row ∷ rows) text are =
-    option_or-holds _ _ (darwin_like_system rows text) (prefixed-read row text are.0)
-    (darwin_like_system-read rows text are.1)
+    search (rules, (darwin_like_system-read rows text are.1), option_or-holds, prefixed-read)
 
 -- a system with a fixed name has no version
 fixed-read : (text : List ℕ) → IfSome (fixed_operating_system_of text) (IsSystemRead text)

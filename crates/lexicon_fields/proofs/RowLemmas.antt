@@ -1,18 +1,17 @@
 -- The rows are exactly those of the strings that are a fixed name of some field.
 use Rattle.lexicon_fields.proofs.Common
-use Common.{Contains, Greater, Option, Ordering, false, has_row, is_none, is_some, nat_cmp, row_text, rules}
+use Common.{binary_format_of, darwin_like_system, fixed_operating_system_of, operating_system_name, operating_system_of}
+use Common.{OperatingSystem, ap, architecture_of, bytes_eq-Decides, darwin_prefixes, known_vendor_name, known_vendor_of}
 use Common.{KnownVendor, arith, environment_of, known_vendors, named_values, option_or, row_count, row_texts, slice_cmp}
-use Common.{Less, List, None, Some, ap, inl, inr, refl, sym, true, ℕ, ◌+◌, ◌<◌, ◌↔◌, ◌∙◌, ◌≡◌, ◌≢◌, ◌≤◌}
-use Common.{OperatingSystem, architecture_of, binary_format_of, darwin_prefixes, known_vendor_name, known_vendor_of}
-use Common.{bytes_eq-Decides, darwin_like_system, fixed_operating_system_of, operating_system_name, operating_system_of}
+use Common.{Contains, Greater, Less, List, None, Option, Ordering, false, has_row, is_none, nat_cmp, row_text, rules, ℕ}
+use Common.{Some, inl, inr, refl, sym, true, ◌+◌, ◌<◌, ◌↔◌, ◌∙◌, ◌≡◌, ◌≢◌, ◌≤◌}
 use Rattle.lexicon_fields.proofs.LookUpLemmas.{none_is, option_or-none, value_named-passes}
 use Rattle.lexicon_fields.proofs.NamesReadBack.{architecture_of-row, binary_format_of-row, environment_of-row}
-use Rattle.lexicon_fields.proofs.RowTexts.{is_row_text, length-row_texts, row_text-default, row_text-passes, rows_below}
-use Rattle.lexicon_fields.proofs.{OperatingSystemsReadBack.first_system-is, RowTexts.rows_above}
+use Rattle.lexicon_fields.proofs.{OperatingSystemsReadBack.first_system-is, RowTexts.is_row_text}
+use Rattle.lexicon_fields.proofs.RowTexts.{length-row_texts, row_text-default, row_text-passes, rows_above, rows_below}
 use Rattle.lexicon_fields.specs.{OperatingSystem.fixed_operating_systems, Private.first_system}
-use Rattle.std.proofs.lemmas.Bool.{cases_Bool, cases_lt, false_from_ne_true}
-use Rattle.std.proofs.lemmas.Map.Views.{Contains-from_any, list_any-from_Contains}
-use Rattle.std.proofs.{lemmas.List.Folds.list_any_at, lemmas.Map.Text.is_eq-slice_cmp}
+use Rattle.std.proofs.lemmas.{Bool.cases_Bool, Bool.cases_lt, Bool.false_from_ne_true, List.Folds.list_any_at}
+use Rattle.std.proofs.lemmas.Map.{Text.is_eq-slice_cmp, Views.Contains-from_any, Views.list_any-from_Contains}
 use Rattle.std.specs.{Cmp.Lexicographic.nat_list_eq_equiv, Ordering.is_eq}
 
 pub known_vendor_of-row : (text : List ℕ) (v : KnownVendor) → known_vendor_of text ≡ Some v → is_row_text text ≡ true
@@ -87,9 +86,6 @@ rows-complete s = (
     | inr none ↦ absurd (let bad : true ≡ false = sym exists ∙ no_row s none in cc)
   ],
 )
-
-is_some-none : {V : Type 0} (o : Option V) → is_some o ≡ false → o ≡ None
-is_some-none o h = search rules
 
 -- a string that has no row is a name of no field
 pub no_name_without_row : (s : List ℕ) → has_row s ≡ false → (architecture_of s ≡ None) × (known_vendor_of s ≡ None)

@@ -1,14 +1,13 @@
 -- The strings of the rows: they are in strictly increasing order, and which strings are among them.
-use Rattle.lexicon_fields.proofs.Common.{Bool, Greater, Ordering, bytes_eq, get_or, length, list_all, nat_cmp, row_text}
-use Rattle.lexicon_fields.proofs.Common.{Equal, Less, List, arith, refl, rules, subst, true, ℕ, ◌+◌, ◌-◌, ◌<◌, ◌∙◌, ◌∷◌}
-use Rattle.lexicon_fields.proofs.Common.{[], and_parts, bytes_eq-Decides, is_dash_free, row_count, row_texts, slice_cmp}
-use Rattle.lexicon_fields.proofs.Common.{ap, inl, inr, sym, ◌≡◌, ◌≤◌}
+use Rattle.lexicon_fields.proofs.Common.{Bool, Equal, Greater, Less, List, Ordering, [], and_parts, ap, arith, bytes_eq}
+use Rattle.lexicon_fields.proofs.Common.{bytes_eq-Decides, get_or, inl, inr, is_dash_free, length, list_all, nat_cmp}
+use Rattle.lexicon_fields.proofs.Common.{refl, row_count, row_text, row_texts, rules, slice_cmp, subst, sym, true, ℕ}
+use Rattle.lexicon_fields.proofs.Common.{◌+◌, ◌-◌, ◌<◌, ◌∙◌, ◌∷◌, ◌≡◌, ◌≤◌}
 use Rattle.std.proofs.lemmas.Bool.{agree_below, agree_below_at, cases_Bool, cases_lt, cases_order}
-use Rattle.std.proofs.lemmas.Map.Keys.{Less-from_sorted, sorted_from_all_adjacent}
-use Rattle.std.proofs.lemmas.Option.{get_or_from_slice_get, slice_get-get_or}
-use Rattle.std.proofs.{lemmas.Cmp.nat_list_cmp_total, lemmas.Map.Text.is_eq-slice_cmp}
-use Rattle.std.specs.Ordering.{is_eq, is_lt, ordering_reverse}
-use Rattle.std.specs.{List.Sorted.IsStrictlySortedBy, List.list_any}
+use Rattle.std.proofs.lemmas.{Cmp.nat_list_cmp_total, Map.Keys.Less-from_sorted, Map.Keys.sorted_from_all_adjacent}
+use Rattle.std.proofs.lemmas.{Map.Text.is_eq-slice_cmp, Option.get_or_from_slice_get, Option.slice_get-get_or}
+use Rattle.std.specs.{List.Sorted.IsStrictlySortedBy, List.list_any, Ordering.is_eq, Ordering.is_lt}
+use Rattle.std.specs.Ordering.{ordering_reverse}
 
 pub length-row_texts : length row_texts ≡ row_count
 unfolding row_texts

@@ -1,8 +1,8 @@
 -- The rows that a binary search compares, step by step.
-use Rattle.lexicon_fields.proofs.Common.{Bool, Equal, Less, List, arith, refl, rules, zero, ℕ, ◌-◌, ◌/◌, ◌<◌, ◌==◌, ◌^◌}
-use Rattle.lexicon_fields.proofs.Common.{Greater, Ordering, if◌then◌else◌, nat_cmp, row_count, row_text, slice_cmp, ◌+◌}
-use Rattle.lexicon_fields.proofs.Common.{suc, ◌≡◌, ◌≤◌}
-use Rattle.lexicon_fields.specs.Search.{search_steps, steps_after, steps_among}
+use Rattle.lexicon_fields.proofs.Common.{Bool, Equal, Greater, Less, List, Ordering, arith, if◌then◌else◌, nat_cmp}
+use Rattle.lexicon_fields.proofs.Common.{refl, row_count, row_text, rules, slice_cmp, suc, zero, ℕ, ◌+◌, ◌-◌, ◌/◌, ◌<◌}
+use Rattle.lexicon_fields.{proofs.Common.◌^◌, proofs.Common.◌≡◌, proofs.Common.◌≤◌, specs.Search.search_steps}
+use Rattle.lexicon_fields.specs.Search.{steps_after, steps_among}
 use Rattle.std.proofs.Math.Nat.{pow-suc}
 
 -- at most one more than either half
@@ -14,8 +14,7 @@ among-few : (most low size : ℕ) (text : List ℕ) → steps_among most low siz
 unfolding steps_among
 among-few zero low size text = omega arith
 among-few (suc most) low size text =
-    one_more (size == 0) _ _ _ most (among-few most (low + (size - size / 2)) (size / 2) text)
-    (among-few most low (size / 2) text)
+    search (rules, (among-few most (low + (size - size / 2)) (size / 2) text), (among-few most low (size / 2) text))
 
 -- a search takes at most eight steps
 pub search-few : (text : List ℕ) → search_steps text ≤ 8

@@ -1,18 +1,16 @@
 -- How version strings are parsed, piece by piece.
-use Rattle.lexicon_fields.proofs.Common.{◌&&◌, ◌++◌, ◌+◌, ◌<◌, ◌^◌, ◌∙◌, ◌∷◌, ◌≡◌, ◌≢◌, ◌≤◌, Bool, List, None}
-use Rattle.lexicon_fields.proofs.Common.{Option, Result, Some, [], ap, arith, cond, length, nat_eq, nat_le}
-use Rattle.lexicon_fields.proofs.Common.{nat_lt, refl, rules, sym, true, ℕ, and_parts, leb-true, ltb-true, Bor, decimal}
-use Rattle.lexicon_fields.proofs.Common.{list_all, dot, version_name, version_of, DeploymentTarget}
-use Rattle.std.specs.Str.Parse.{IsNumeral, ParsesUnsigned, digits_value, without_leading_plus}
-use Rattle.std.specs.{Char.is_ascii_digit, List.before_first, List.after_first, List.position_or_len, Result.OkIff}
-use Rattle.std.specs.{Result.result_ok}
-use Rattle.std.proofs.lemmas.List.Splits.{slice_split_first, slice_split_none, length-slice_split}
-use Rattle.std.proofs.{lemmas.Bool.and_from, lemmas.Bool.lt-ltb, lemmas.Bool.le-leb, lemmas.Fmt.decimal_is_IsNumeral}
-use Rattle.std.proofs.{lemmas.List.Sums.fails_before_first, lemmas.Str.Parse.IsNumeralModel}
-use Rattle.std.proofs.{lemmas.Str.Parse.numerals_by_value}
-use Rattle.lexicon_fields.specs.{Private.remaining_pieces, Version.piece_number_within}
-use Rattle.lexicon_fields.specs.{Version.version_of_numbers, Version.pieces_of}
-use Rattle.lexicon_fields.proofs.LookUpLemmas.{test_apart, all_apart}
+use Rattle.lexicon_fields.proofs.Common.{Bool, Bor, DeploymentTarget, List, None, Option, Result, Some, [], and_parts}
+use Rattle.lexicon_fields.proofs.Common.{ap, arith, cond, decimal, dot, leb-true, length, list_all, ltb-true, nat_eq}
+use Rattle.lexicon_fields.proofs.Common.{nat_le, nat_lt, refl, rules, sym, true, version_name, version_of, ℕ, ◌&&◌}
+use Rattle.lexicon_fields.proofs.Common.{◌++◌, ◌+◌, ◌<◌, ◌^◌, ◌∙◌, ◌∷◌, ◌≡◌, ◌≢◌, ◌≤◌}
+use Rattle.lexicon_fields.proofs.LookUpLemmas.{all_apart, test_apart}
+use Rattle.lexicon_fields.specs.{Private.remaining_pieces, Version.piece_number_within, Version.pieces_of}
+use Rattle.std.proofs.lemmas.{Bool.and_from, Bool.le-leb, Bool.lt-ltb, Fmt.decimal_is_IsNumeral}
+use Rattle.std.proofs.lemmas.List.Splits.{length-slice_split, slice_split_first, slice_split_none}
+use Rattle.std.proofs.lemmas.{List.Sums.fails_before_first, Str.Parse.IsNumeralModel, Str.Parse.numerals_by_value}
+use Rattle.std.specs.{Char.is_ascii_digit, List.after_first, List.before_first, List.position_or_len, Result.OkIff}
+use Rattle.std.specs.{Result.result_ok, Str.Parse.IsNumeral, Str.Parse.ParsesUnsigned, Str.Parse.digits_value}
+use Rattle.std.specs.Str.Parse.{without_leading_plus}
 
 -- the test for digits is that of `parse`
 pub digits_model : IsNumeralModel (λ ds. list_all is_ascii_digit ds ≡ true) (digits_value 10)
@@ -68,13 +66,6 @@ pieces-more pieces p rest others ps is some more = is ∙ ap (λ x. p ∷ remain
 -- a string has a piece
 pub pieces_of-some : (text : List ℕ) → pieces_of text ≢ []
 pieces_of-some text none = let e = length-slice_split (λ c. nat_eq c dot) text in let k = ap length none in omega arith
-
--- a version with no second number, and one with no third
-no_second : (major patch : Option ℕ) → version_of_numbers major None patch ≡ None
-no_second major patch = search rules
-
-no_third : (major minor : Option ℕ) → version_of_numbers major minor None ≡ None
-no_third major minor = search rules
 
 -- the version of a string by its pieces
 

@@ -1,11 +1,11 @@
 -- Three numbers with dots between are put one after the other: what is put is the name of the version, fits, and is
 -- ASCII.
-use Rattle.lexicon_fields.proofs.Common.{◌<◌, ◌^◌, ◌∙◌, ◌∷◌, ◌≡◌, List, [], ap, arith, length, rules, ℕ, decimal}
-use Rattle.lexicon_fields.proofs.Common.{IsVersionInRange, Puts, dot, version_name, DeploymentTarget}
+use Rattle.lexicon_fields.proofs.Common.{DeploymentTarget, IsVersionInRange, List, Puts, [], arith, decimal, dot, rules}
+use Rattle.lexicon_fields.proofs.Common.{version_name, ℕ, ◌<◌, ◌^◌, ◌∙◌, ◌∷◌, ◌≡◌}
+use Rattle.lexicon_fields.proofs.{ParsedSystems.length-version, ParsedSystems.numbers-short, Puts.put_taken}
+use Rattle.lexicon_fields.proofs.Puts.{puts_then}
+use Rattle.std.proofs.lemmas.{Fmt.IsAscii-decimal, Str.IsAscii-append, Str.IsUtf8-from_ascii}
 use Rattle.std.specs.Str.{IsAscii, IsUtf8}
-use Rattle.std.proofs.{lemmas.Fmt.IsAscii-decimal, lemmas.Str.IsAscii-append, lemmas.Str.IsUtf8-from_ascii}
-use Rattle.lexicon_fields.proofs.ParsedSystems.{length-version, numbers-short}
-use Rattle.lexicon_fields.proofs.Puts.{puts_then, put_taken}
 use Rattle.lexicon_fields.proofs.deployment_target.version_text.Goals as goal
 
 -- digits and dots are UTF-8
@@ -25,36 +25,16 @@ version-put : (v : DeploymentTarget) (major : ℕ) {old first second now : List 
 version-put v major is p q r = puts_then (rw is at p) (puts_then q r)
 
 pub put_decimal-major_end-requires : goal.put_decimal-major_end-requires
-put_decimal-major_end-requires c =
-    omega (arith, ap (λ n. length (decimal n)) c.from.ensures, numbers-short c.args.version (search rules))
+put_decimal-major_end-requires c = search (rules, numbers-short)
 
 pub put_dotted-minor_end-requires : goal.put_dotted-minor_end-requires
-put_dotted-minor_end-requires c =
-    let put = c.put_decimal-major_end.ensures in
-    omega (
-      arith,
-      ap (λ n. length (decimal n)) c.from.ensures,
-      put.end_is,
-      put.same_length,
-      numbers-short c.args.version (search rules),
-    )
+put_dotted-minor_end-requires c = search (rules, numbers-short)
 
 pub put_dotted-patch_end-requires : goal.put_dotted-patch_end-requires
-put_dotted-patch_end-requires c =
-    let put = puts_then c.put_decimal-major_end.ensures c.put_dotted-minor_end.ensures in
-    omega (
-      arith,
-      ap (λ n. length (decimal n)) c.from.ensures,
-      put.end_is,
-      put.same_length,
-      numbers-short c.args.version (search rules),
-    )
+put_dotted-patch_end-requires c = search (rules, puts_then, numbers-short)
 
 pub shared_ref_as_front-text : goal.shared_ref_as_front-text
-shared_ref_as_front-text c =
-    let put = version-put c.args.version _ c.from.ensures c.put_decimal-major_end.ensures c.put_dotted-minor_end.ensures
-    c.put_dotted-patch_end.ensures in
-    omega (arith, put.end_is, length-version c.args.version, numbers-short c.args.version (search rules))
+shared_ref_as_front-text c = search (rules, version-put, length-version, numbers-short)
 
 pub unreachable-requires : goal.unreachable-requires
 unreachable-requires c =

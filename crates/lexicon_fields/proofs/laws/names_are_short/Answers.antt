@@ -1,10 +1,9 @@
 -- The length of each name is computed and compared with the limit; that of a version has a bound of its own.
-use Rattle.lexicon_fields.proofs.Common.{◌++◌, ◌+◌, ◌≡◌, ◌≤◌, HasVersionInRange, IfSome, IsVersionInRange, List, None}
-use Rattle.lexicon_fields.proofs.Common.{Option, Some, [], arith, codes, leb-true, length}
-use Rattle.lexicon_fields.proofs.Common.{length-append, nat_le, operating_system_name, refl, true, version_name, ℕ}
-use Rattle.lexicon_fields.proofs.Common.{version_suffix, DeploymentTarget, OperatingSystem}
-use Rattle.lexicon_fields.specs.Laws.{max_name_length}
+use Rattle.lexicon_fields.proofs.Common.{DeploymentTarget, HasVersionInRange, IfSome, IsVersionInRange, List}
+use Rattle.lexicon_fields.proofs.Common.{OperatingSystem, Option, arith, codes, leb-true, length, length-append, nat_le}
+use Rattle.lexicon_fields.proofs.Common.{operating_system_name, refl, true, version_suffix, ℕ, ◌++◌, ◌+◌, ◌≡◌, ◌≤◌}
 use Rattle.lexicon_fields.proofs.ParsedSystems.{length-version, numbers-short}
+use Rattle.lexicon_fields.specs.Laws.{max_name_length}
 use Rattle.lexicon_fields.specs.declared.operating_system.OperatingSystem.TheVariants as operating_system
 use Rattle.lexicon_fields.proofs.laws.names_are_short.Goals as goal
 
@@ -12,9 +11,7 @@ use Rattle.lexicon_fields.proofs.laws.names_are_short.Goals as goal
 with_version : (prefix : List ℕ) (version : Option DeploymentTarget)
     → nat_le (length prefix + 13) max_name_length ≡ true → IfSome version IsVersionInRange
     → length (prefix ++ version_suffix version) ≤ max_name_length
-with_version prefix None short range = omega (arith, length-append prefix [], leb-true _ _ short)
-with_version prefix (Some v) short range =
-    omega (arith, length-append prefix (version_name v), leb-true _ _ short, length-version v, numbers-short v range)
+with_version prefix version short range = grind (arith, length-append, leb-true, length-version, numbers-short)
 
 system-is_short : (s : OperatingSystem) → HasVersionInRange s → length (operating_system_name s) ≤ max_name_length
 -- written by tools/names/write: each versioned system is short

@@ -1,16 +1,14 @@
 -- A value feeds a hasher its variant and then its fields, and these bytes determine both, whatever follows them.
-use Rattle.lexicon_fields.proofs.Common.{◌++◌, ◌∙◌, ◌≡◌, IfSome, None, Option, Some, ap, arith, length, refl, sym}
-use Rattle.lexicon_fields.proofs.Common.{HashWrites, usize, tag_of, HashInjectiveOn, IsVersionInRange, Custom, Known}
-use Rattle.lexicon_fields.proofs.Common.{VendorValue, known_vendors, DeploymentTarget}
+use Rattle.lexicon_fields.proofs.Common.{Custom, DeploymentTarget, HashInjectiveOn, HashWrites, IfSome}
+use Rattle.lexicon_fields.proofs.Common.{IsVersionInRange, Known, Option, VendorValue, ap, arith, known_vendors, length}
+use Rattle.lexicon_fields.proofs.Common.{refl, sym, tag_of, usize, ◌++◌, ◌∙◌, ◌≡◌}
+use Rattle.lexicon_fields.proofs.HashInputs.{Distinguishes, bare_hash_injective, enum_hash_injective, first_byte}
+use Rattle.lexicon_fields.proofs.HashInputs.{first_write, hash_injective_on, one_field, same_u16, variants_distinguish}
+use Rattle.lexicon_fields.{proofs.HashInputs.writes_after_first, specs.Vendor.custom_string, specs.Vendor.vendor_value}
+use Rattle.lexicon_fields.specs.declared.vendor.{CustomVendor.CustomVendor, Vendor.Vendor}
 use Rattle.std.specs.Hash.{le_bytes, option, str}
-use Rattle.lexicon_fields.specs.{declared.vendor.CustomVendor.CustomVendor, declared.vendor.Vendor.Vendor}
-use Rattle.lexicon_fields.specs.{Vendor.custom_string, Vendor.vendor_value}
-use Rattle.lexicon_fields.proofs.HashInputs.{Distinguishes, writes_after_first, first_write, first_byte, same_u16}
-use Rattle.lexicon_fields.proofs.HashInputs.{hash_injective_on, bare_hash_injective, enum_hash_injective}
-use Rattle.lexicon_fields.proofs.HashInputs.{variants_distinguish, one_field}
 use Rattle.lexicon_fields.specs.declared.architecture.Architecture.TheVariants as variants
 use Rattle.lexicon_fields.specs.declared.operating_system.OperatingSystem.TheVariants as systems
-use Rattle.lexicon_fields.specs.declared.vendor.Vendor.TheVariants as vendors
 use Rattle.lexicon_fields.specs.contracts.vendor.VendorHash.TheImpl as vendor_hash
 use Rattle.lexicon_fields.specs.contracts.operating_system.OperatingSystemHash.TheImpl as operating_system_hash
 use Rattle.lexicon_fields.specs.contracts.deployment_target.DeploymentTargetHash.TheImpl as version_hash
@@ -27,30 +25,19 @@ use Rattle.lexicon_fields.proofs.laws.values_hash_by_variant_and_fields.Goals as
 
 version_distinguishes : (x y : DeploymentTarget)
     → Distinguishes IsVersionInRange (λ v. v) version_hash.ghosts.hash_input x y
-version_distinguishes x y a b hx hy same =
-    let major : x.major ≡ y.major = same_u16 x.major y.major hx.0 hy.0 (ap first_write same) in
-    let minor : x.minor ≡ y.minor = ap first_byte (ap writes_after_first same) in
-    let patch : x.patch ≡ y.patch = ap first_byte (ap writes_after_first (ap writes_after_first same)) in (
-      (λ i. record { major = major i; minor = minor i; patch = patch i }),
-      ap writes_after_first (ap writes_after_first (ap writes_after_first same)),
-    )
+version_distinguishes x y a b hx hy same = grind (arith, same_u16, first_write, first_byte, writes_after_first)
 
 -- an optional version
 system_version-distinguishes : (x y : Option DeploymentTarget)
     → Distinguishes (λ v. IfSome v IsVersionInRange) (λ v. v) (option version_hash.ghosts.hash_input) x y
 unfolding le_bytes
-system_version-distinguishes None None a b hx hy same = (refl, ap writes_after_first same)
-system_version-distinguishes (Some x) (Some y) a b hx hy same =
-    let versions = version_distinguishes x y a b hx hy (ap writes_after_first same) in (ap Some versions.0, versions.1)
-system_version-distinguishes _ _ a b hx hy same = absurd (let bytes = ap first_byte same in omega arith)
+system_version-distinguishes x y = grind (arith, writes_after_first, version_distinguishes, first_byte)
 
 system_version-hash : HashInjectiveOn (λ v. IfSome v IsVersionInRange) (λ v. v) (option version_hash.ghosts.hash_input)
 system_version-hash = hash_injective_on system_version-distinguishes (λ x y. ap (option version_hash.ghosts.hash_input))
 
 custom_vendor-hash : HashInjectiveOn (λ (x : CustomVendor). Unit {0}) custom_string (λ x. str (custom_string x))
-custom_vendor-hash =
-    hash_injective_on (λ x y a b _ _ same. (ap first_write same, ap writes_after_first (ap writes_after_first same)))
-    (λ x y. ap str)
+custom_vendor-hash = grind (arith, hash_injective_on, first_write, writes_after_first)
 
 -- what a vendor value feeds
 abbrev value_hash : VendorValue → HashWrites
@@ -58,8 +45,7 @@ value_hash (Known known) = usize (tag_of known_vendor.the_type known)
 value_hash (Custom text) = usize (length known_vendors) ++ str text
 
 hash_by_value : (x : Vendor) → vendor_hash.ghosts.hash_input x ≡ value_hash (vendor_value x)
-hash_by_value (vendors.Custom custom) = refl
-hash_by_value _ = refl
+hash_by_value x = grind arith
 
 pub returns : goal.returns
 returns c = record {

@@ -1,33 +1,25 @@
 -- What follows the prefix is empty, a version, or refused, as `version_after` says of a string with the prefix.
-use Rattle.lexicon_fields.proofs.Common.{◌++◌, ◌∙◌, ◌∷◌, ◌≡◌, ◌≢◌, List, None, Some, [], ap, arith, length}
-use Rattle.lexicon_fields.proofs.Common.{option_and_then, option_map, refl, rules, sym, ℕ, optional_version_of}
-use Rattle.lexicon_fields.proofs.Common.{version_of}
+use Rattle.lexicon_fields.proofs.Common.{List, None, Some, [], ap, length, option_map, optional_version_of, rules}
+use Rattle.lexicon_fields.proofs.Common.{version_of, ℕ, ◌++◌, ◌∙◌, ◌≡◌, ◌≢◌}
+use Rattle.lexicon_fields.proofs.OperatingSystemsReadBack.{has_no_prefix, has_prefix}
 use Rattle.lexicon_fields.specs.Private.{version_after}
-use Rattle.lexicon_fields.proofs.OperatingSystemsReadBack.{has_prefix, has_no_prefix}
 use Rattle.lexicon_fields.proofs.operating_system.version_after.Goals as goal
 
 pub returns-in_err-rest : goal.returns-in_err-rest
 unfolding version_after
-returns-in_err-rest c =
-    c.from_residual.ensures ∙ sym
-    (ap (option_and_then optional_version_of)
-    (has_no_prefix c.args.prefix.now c.args.text.now c.in_err-rest.ensures.cases))
+returns-in_err-rest c = search (rules, has_no_prefix)
 
 -- after the prefix, the version is that of the rest
 after_prefix : (prefix text rest cut : List ℕ) → text ≡ prefix ++ cut → rest ≡ cut
     → optional_version_of rest ≡ version_after prefix text
 unfolding version_after
-after_prefix prefix text rest cut whole is =
-    sym (ap (option_and_then optional_version_of)
-    (has_prefix prefix text rest (whole ∙ ap (λ r. prefix ++ r) (sym is))))
+after_prefix prefix text rest cut whole is = search (rules, has_prefix)
 
 of_none : (rest : List ℕ) → length rest ≡ 0 → Some None ≡ optional_version_of rest
-of_none [] none = refl
-of_none (c ∷ cs) none = absurd (omega (arith, none))
+of_none rest none = search rules
 
 of_some : (rest : List ℕ) → rest ≢ [] → option_map Some (version_of rest) ≡ optional_version_of rest
-of_some [] some = absurd (some refl)
-of_some (c ∷ cs) some = refl
+of_some rest some = search rules
 
 pub returns-then-is_empty : goal.returns-then-is_empty
 returns-then-is_empty c =

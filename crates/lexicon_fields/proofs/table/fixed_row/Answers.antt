@@ -1,33 +1,17 @@
 -- The row that is found has the string, what each field reads it as, and the ticks of the search.
-use Rattle.lexicon_fields.proofs.Common.{◌∙◌, ◌≡◌, List, ap, arith, option_map, refl, sym, ℕ, Known}
-use Rattle.lexicon_fields.proofs.Common.{fixed_operating_system_of, known_vendor_of}
-use Rattle.lexicon_fields.proofs.table.fixed_row.Goals.{in-Architecture, in-Vendor, in-OperatingSystem, in-Environment}
-use Rattle.lexicon_fields.proofs.table.fixed_row.Goals.{in-BinaryFormat, in-None, in-Unknown}
-use Rattle.lexicon_fields.proofs.{RowLemmas.row-parses_by_name, VendorsReadBack.row_read, SearchSteps.search-few}
-use Rattle.lexicon_fields.proofs.{RowReads.Row, SearchSteps.search-some}
-use Rattle.lexicon_fields.specs.{declared.table.FixedRow.FixedRow, FixedRow.IsRowOf, Private.FieldValues}
-use Rattle.lexicon_fields.specs.{Private.IsTheRow, Private.row_values, Private.values_meant}
-use Rattle.lexicon_fields.specs.{declared.table.Meaning.Meaning}
+use Rattle.lexicon_fields.proofs.Common.{List, arith, refl, ℕ, ◌≡◌}
+use Rattle.lexicon_fields.proofs.{RowLemmas.row-parses_by_name, RowReads.Row, SearchSteps.search-few}
+use Rattle.lexicon_fields.proofs.{SearchSteps.search-some, VendorsReadBack.row_read}
+use Rattle.lexicon_fields.proofs.table.fixed_row.Goals.{in-Architecture, in-BinaryFormat, in-Environment, in-None}
+use Rattle.lexicon_fields.proofs.table.fixed_row.Goals.{in-OperatingSystem, in-Unknown, in-Vendor}
+use Rattle.lexicon_fields.specs.{FixedRow.IsRowOf, Private.IsTheRow, Private.row_values, Private.values_meant}
+use Rattle.lexicon_fields.specs.declared.table.{FixedRow.FixedRow, Meaning.Meaning}
 use Rattle.lexicon_fields.proofs.table.fixed_row.Goals as goal
 
 -- a row made of the string and the meaning that were found
 is_row : (name : List ℕ) (row made : FixedRow) (found : Row) (meant : Meaning) → IsTheRow name found → row ≡ made
     → found.1 ≡ meant → made.text.now ≡ found.0.now → row_values made ≡ values_meant meant → IsRowOf name row
-is_row name row made found meant the same of text values =
-    let is = ap row_values same ∙ values ∙ sym (ap values_meant of) ∙ the.values in
-    let vendor : row.vendor ≡ known_vendor_of name = ap (λ (v : FieldValues). v.1) is in
-    let operating_system : row.operating_system ≡ fixed_operating_system_of name = ap (λ (v : FieldValues). v.2) is in
-    record {
-      exists = the.exists;
-      text = ap (λ (r : FixedRow). r.text.now) same ∙ text ∙ the.text;
-      architecture = ap (λ (v : FieldValues). v.0) is;
-      vendor = vendor;
-      operating_system = operating_system;
-      environment = ap (λ (v : FieldValues). v.3) is;
-      binary_format = ap (λ (v : FieldValues). v.4) is;
-      no_other_vendor = ap (option_map Known) vendor ∙ row_read _ the.exists;
-      no_other_operating_system = operating_system ∙ sym (row-parses_by_name _ the.exists);
-    }
+is_row name row made found meant the same of text values = grind (arith, row_read, row-parses_by_name)
 
 pub returns-clause-row : goal.returns-clause-row
 returns-clause-row c =

@@ -1,48 +1,23 @@
 -- A binary search: no row before `low` or after the `size` rows from there has the string, and the ticks so far are
 -- those of the way to them.
-use Rattle.lexicon_fields.proofs.Common.{◌+◌, ◌/◌, ◌<◌, ◌≡◌, List, ap, arith, refl, subst, sym, true, ℕ}
-use Rattle.lexicon_fields.proofs.Common.{architecture_of, binary_format_of, environment_of, has_row, row_count}
-use Rattle.lexicon_fields.proofs.Common.{row_texts, fixed_operating_system_of, name_values, known_vendor_of}
-use Rattle.lexicon_fields.proofs.RowLemmas.{row-exists, no_row-outside, no_row-below, no_row-above}
-use Rattle.lexicon_fields.proofs.SearchSteps.{on-the-way-first, on-the-way-less, on-the-way-greater, found-there}
-use Rattle.lexicon_fields.proofs.SearchSteps.{none-left}
-use Rattle.lexicon_fields.proofs.{RowReads.text-is, RowReads.values-are, RowTexts.row_text-is}
+use Rattle.lexicon_fields.proofs.Common.{List, ap, architecture_of, arith, binary_format_of, environment_of}
+use Rattle.lexicon_fields.proofs.Common.{fixed_operating_system_of, has_row, known_vendor_of, name_values, refl}
+use Rattle.lexicon_fields.proofs.Common.{row_count, row_texts, subst, sym, true, ℕ, ◌+◌, ◌/◌, ◌<◌, ◌≡◌}
+use Rattle.lexicon_fields.proofs.RowLemmas.{no_row-above, no_row-below, no_row-outside, row-exists}
+use Rattle.lexicon_fields.proofs.{RowReads.text-is, RowReads.values-are, RowTexts.row_text-is, SearchSteps.found-there}
+use Rattle.lexicon_fields.proofs.SearchSteps.{none-left, on-the-way-first, on-the-way-greater, on-the-way-less}
 use Rattle.lexicon_fields.proofs.table.row_of.Goals as goal
 
 pub loop-size-init : goal.loop-size-init
-loop-size-init c = record {
-  within = omega arith;
-  below = λ k less. absurd (omega (arith, less));
-  above = λ k most less. absurd (omega (arith, most, less));
-  way = on-the-way-first c.args.steps.now.count c.args.text.now;
-}
+loop-size-init c = grind (arith, on-the-way-first)
 
 pub loop-size-preserved-in-Less : goal.loop-size-preserved-in-Less
 loop-size-preserved-in-Less c =
-    let loop = c.loop-size in
-    let middle = loop.low + loop.size / 2 in
-    let earlier = no_row-below middle c.args.text.now (omega (arith, loop.invariant.within, c.loop-size-test.true))
-    (sym c.in-Less.ensures.order) in
-    record {
-      within = omega (arith, loop.invariant.within);
-      below = λ k lt. earlier k (omega (arith, lt));
-      above = λ k ge. loop.invariant.above k (omega (arith, ge));
-      way =
-          on-the-way-less _ _ _ loop.low loop.size c.args.text.now loop.invariant.way
-          (omega (arith, c.loop-size-test.true)) c.row_order.ensures.count (sym c.in-Less.ensures.order);
-    }
+    grind (arith, no_row-below, c.in-Less.ensures.order, on-the-way-less, c.row_order.ensures.count)
 
 pub loop-size-preserved : goal.loop-size-preserved
 loop-size-preserved c =
-    let loop = c.loop-size in
-    record {
-      within = omega (arith, loop.invariant.within);
-      below = loop.invariant.below;
-      above = no_row-above (loop.low + loop.size / 2) c.args.text.now (sym c.in-Greater.ensures.order);
-      way =
-          on-the-way-greater _ _ _ loop.low loop.size c.args.text.now loop.invariant.way
-          (omega (arith, c.loop-size-test.true)) c.row_order.ensures.count (sym c.in-Greater.ensures.order);
-    }
+    grind (arith, no_row-above, c.in-Greater.ensures.order, on-the-way-greater, c.row_order.ensures.count)
 
 pub returns-in-Equal-clause-row : goal.returns-in-Equal-clause-row
 unfolding row_texts architecture_of known_vendor_of fixed_operating_system_of environment_of binary_format_of

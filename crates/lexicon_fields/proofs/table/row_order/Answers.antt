@@ -1,13 +1,12 @@
 -- The order of two different prefix keys is that of the strings; with equal keys the order of the lengths is, or of the
 -- strings.
-use Rattle.lexicon_fields.proofs.Common.{◌<◌, ◌∙◌, ◌≡◌, ◌≤◌, ◌⊎◌, Equal, Iter, List, ap, arith, drop, get_or, inl, inr}
-use Rattle.lexicon_fields.proofs.Common.{nat_cmp, refl, sym, ℕ, row_count, row_text, row_texts, prefix_key_of}
-use Rattle.std.specs.Cmp.{nat_cmp_is}
-use Rattle.std.proofs.{lemmas.List.take_rest, lemmas.Iterator.YieldsList-from_slice}
-use Rattle.std.proofs.{lemmas.Iterator.Search.cmp_from_yields_List}
+use Rattle.lexicon_fields.proofs.Common.{Equal, Iter, List, ap, arith, drop, get_or, nat_cmp, prefix_key_of, refl}
+use Rattle.lexicon_fields.proofs.Common.{row_count, row_text, row_texts, sym, ℕ, ◌<◌, ◌∙◌, ◌≡◌, ◌≤◌, ◌⊎◌}
+use Rattle.lexicon_fields.proofs.PrefixKeyLemmas.{greater_by_key, less_by_key, order_of_rests, order_of_same_key}
+use Rattle.lexicon_fields.proofs.RowReads.{key-is, row_text-bytes, text-is}
 use Rattle.lexicon_fields.specs.declared.table.TheConstants.{KEYS}
-use Rattle.lexicon_fields.proofs.PrefixKeyLemmas.{less_by_key, greater_by_key, order_of_rests, order_of_same_key}
-use Rattle.lexicon_fields.proofs.RowReads.{key-is, text-is, row_text-bytes}
+use Rattle.std.proofs.lemmas.{Iterator.Search.cmp_from_yields_List, Iterator.YieldsList-from_slice, List.take_rest}
+use Rattle.std.specs.Cmp.{nat_cmp_is}
 use Rattle.lexicon_fields.proofs.table.row_order.Goals as goal
 
 pub returns-then-own_key-key-clause-order : goal.returns-then-own_key-key-clause-order
@@ -28,8 +27,7 @@ same_key : (i : ℕ) (text : List ℕ) (key : ℕ) → i < row_count → key ≡
 same_key i text key below is le ge = omega (arith, key-is i below, is, le, ge)
 
 not_both_long : {m n : ℕ} → (m ≤ 8) ⊎ ((8 < m) × (n ≤ 8)) → 8 < m → 8 < n → ⊥
-not_both_long (inl few) p q = omega (arith, few, p)
-not_both_long (inr few) p q = omega (arith, few.1, q)
+not_both_long h1 p q = grind arith
 
 pub returns-then-own-text-clause-order : goal.returns-then-own-text-clause-order
 unfolding row_texts

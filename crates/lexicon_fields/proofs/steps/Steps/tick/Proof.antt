@@ -1,15 +1,14 @@
 -- `tick` adds one to the count, which has no bytes.
-use Rattle.lexicon_fields.proofs.Common.{◌+◌, ◌∷◌, [], refl}
-use Rattle.std.proofs.raw_atomic.Walks.{proved}
-use mir.{Syntax.named, Val.vunit}
-use base.Fml.{ftrue, flft}
-use types.Kit.{‵, ◌⊛◌, ◌$◌, ◌∵◌, !, qed, done, move, keep, split, join, fsplit3, feq_i, suffices, frame, group}
-use types.Run.{enter, of_opd, unit_lit, returns}
-use types.ByLocal.{alloc_all, pass_all, free_all, look_at, sets}
-use denote.Triple.Walked.{Stays, walk_of, says, stay_ref, Goes-ref, ends_at}
-use denote.{Ref.MutRef, Ref.mut_vals, Ref.mut_Tells, Signature.plain, Steps.nothing, Steps.opens, Steps.closes}
-use Rattle.lexicon_fields.proofs.steps.Steps.tick.Statement.{statement}
+use Rattle.lexicon_fields.proofs.{Common.[], Common.refl, Common.◌+◌, Common.◌∷◌, steps.Steps.tick.Statement.statement}
 use Rattle.lexicon_fields.specs.contracts.steps.Steps.{the_row as R}
+use Rattle.std.proofs.raw_atomic.Walks.{proved}
+use base.Fml.{flft, ftrue}
+use denote.{Ref.MutRef, Ref.mut_Tells, Ref.mut_vals, Signature.plain, Steps.closes, Steps.nothing, Steps.opens}
+use denote.Triple.Walked.{Goes-ref, Stays, ends_at, says, stay_ref, walk_of}
+use mir.{Syntax.named, Val.vunit}
+use types.{ByLocal.alloc_all, ByLocal.free_all, ByLocal.look_at, ByLocal.pass_all, ByLocal.sets, Kit.!, Kit.done}
+use types.Kit.{feq_i, frame, fsplit3, group, join, keep, move, qed, split, suffices, ‵, ◌$◌, ◌∵◌, ◌⊛◌}
+use types.Run.{enter, of_opd, returns, unit_lit}
 use Rattle.lexicon_fields.specs.contracts.steps.Steps.tick as f
 use Rattle.lexicon_fields.proofs.steps.Steps.tick.Code as code
 
