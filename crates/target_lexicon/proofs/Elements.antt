@@ -1,11 +1,10 @@
 -- The elements of a JSON array that have been parsed so far.
-use Rattle.serde_json.specs.Data.{Data, Items}
-use Rattle.serde_json.specs.{Find.get_item, View.items_view, View.view, declared.value.Value.Value}
-use Rattle.std.proofs.lemmas.List.{map-append, take_all}
-use Rattle.std.proofs.{lemmas.Grind.common_steps, lemmas.List.Elements.All-append}
-use Rattle.target_lexicon.proofs.Common.{Some, Triple, Values, [], add-one, arith, get_or, length, map, refl, rules}
-use Rattle.target_lexicon.proofs.Common.{subst, suc, take, values_of, zero, ℕ}
-use Rattle.target_lexicon.proofs.Common.{◌++◌, ◌+◌, ◌<◌, ◌∷◌, ◌≡◌, ◌≤◌, All, ElementsParseAs, List, MatchOption, Option}
+use Rattle.serde_json.specs.{Data.Data, Data.Items, Find.get_item, View.items_view, View.view}
+use Rattle.serde_json.specs.declared.value.Value.{Value}
+use Rattle.std.proofs.lemmas.{Grind.common_steps, List.Elements.All-append, List.map-append, List.take_all}
+use Rattle.target_lexicon.proofs.Common.{All, ElementsParseAs, List, MatchOption, Option, Some, Triple, Values, []}
+use Rattle.target_lexicon.proofs.Common.{add-one, arith, get_or, length, map, refl, rules, subst, suc, take, values_of}
+use Rattle.target_lexicon.proofs.Common.{zero, ℕ, ◌++◌, ◌+◌, ◌<◌, ◌∷◌, ◌≡◌, ◌≤◌}
 use Rattle.target_lexicon.specs.Json.{IsElementParsed, IsFirstError, IsJsonErrorOf, JsonErrorValue, JsonParsesAs}
 
 -- an element of an array, by its index

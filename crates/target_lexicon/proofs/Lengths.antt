@@ -1,30 +1,28 @@
 -- Printed strings are at most so much longer than the string that was parsed, and the canonical form makes no string
 -- longer.
-use Rattle.lexicon_fields.proofs.LookUpLemmas.{value_named-all}
-use Rattle.lexicon_fields.specs.Laws.{NamesAreShort, NamesGrowAtMost, TextsAreNames, max_name_length}
-use Rattle.lexicon_fields.specs.{Architecture.architecture_texts, Vendor.known_vendor_name}
-use Rattle.std.proofs.{Math.Bool.or-true, lemmas.Bool.leb-true}
 use Rattle.target_lexicon.proofs.Common
-use Common.{HasFieldsOf, HasSpecialFields, HasSystemOf, HidesNewlib, HoldsParts, IsLeastPlacement, IsValueOf, Known}
-use Common.{List, None, OperatingSystem, Option, PlacedPart, PrintsTheEspIdfString, ShowsOnlyNone, Some, SpecialRow}
-use Common.{Unknown, Values, VendorValue, [], and_parts, ap, architecture_name, architecture_of, arith}
-use Common.{binary_format_name, binary_format_of, cons_if, dash, default_binary_format, elf_if_unknown}
-use Common.{environment_name, environment_of, expected_after, false, field_for, field_number, implied_format, inl, inr}
-use Common.{is_same_format, join_with_byte, length, length-append, nat_le, normal_step, not, not-true, omits_system}
-use Common.{omits_unknown_system, open_fields, operating_system_name, operating_system_of, parses_as, part_at}
-use Common.{placed_from, refl, rules, shown_names, shows_binary_format, shows_environment, shows_operating_system}
-use Common.{shows_unknowns, shows_vendor, slice_get, special_string, special_triple, step_of, string_of, subst, suc}
-use Common.{sym, true, true≢false, unwrap_or, values, vendor_name, vendor_of, zero, ℕ}
-use Common.{◌&&◌, ◌+◌, ◌<◌, ◌^◌, ◌||◌, ◌∙◌, ◌∷◌, ◌≡◌, ◌≢◌, ◌≤◌, Architecture, BinaryFormat, Bool, Environment, Field}
+use Common.{OperatingSystem, default_binary_format, omits_unknown_system, operating_system_name, shows_operating_system}
+use Common.{Unknown, architecture_name, binary_format_name, operating_system_of, shows_binary_format, shows_environment}
+use Common.{HasSpecialFields, IsLeastPlacement, [], architecture_of, binary_format_of, elf_if_unknown, environment_name}
+use Common.{Environment, environment_of, expected_after, implied_format, is_same_format, join_with_byte, shows_unknowns}
+use Common.{Architecture, BinaryFormat, ShowsOnlyNone, field_number, inl, length-append, special_string, special_triple}
+use Common.{HasFieldsOf, HidesNewlib, VendorValue, normal_step, omits_system, open_fields, placed_from, shows_vendor, ℕ}
+use Common.{HoldsParts, IsValueOf, PlacedPart, SpecialRow, and_parts, field_for, shown_names, true≢false, vendor_name}
+use Common.{Option, Values, cons_if, not-true, parses_as, part_at, slice_get, step_of, string_of, unwrap_or, vendor_of}
+use Common.{Bool, Field, Known, List, None, Some, arith, dash, false, length, refl, rules, subst, true, values, zero}
+use Common.{ap, inr, not, suc, sym, ◌+◌, ◌<◌, ◌^◌, ◌||◌, ◌∙◌, ◌∷◌, ◌≡◌, ◌≢◌, ◌≤◌, ◌⊎◌}
+use Rattle.lexicon_fields.specs.Laws.{NamesAreShort, NamesGrowAtMost, TextsAreNames, max_name_length}
+use Rattle.lexicon_fields.specs.Vendor.{known_vendor_name}
+use Rattle.std.proofs.Math.Bool.{or-true}
 use Rattle.target_lexicon.proofs.GreedyPlacement.{Fills, State, Stop, Take, after, cases_Option, first-is, first-least}
 use Rattle.target_lexicon.proofs.GreedyPlacement.{least-filled, open-follows, start, strings_of, texts-placed}
-use Rattle.target_lexicon.proofs.PrintingLemmas.{names_after_system, printed_names}
-use Rattle.target_lexicon.proofs.SpecialRows.{RowFacts, prints_row, row_of_fields, row_of_system, string_cases}
-use Rattle.target_lexicon.proofs.{NamesAcross.environment_of-format, ReadParts.absent, ReadParts.absent-none}
-use Rattle.target_lexicon.proofs.{ReadValues.read-holds, RoundTrips.is_same_format-is, StepCases.step_cases}
-use Rattle.target_lexicon.specs.FixedPoints.{CanonicalStringsGrowAtMost, PrintedStringsGrowAtMost}
-use Rattle.target_lexicon.specs.Printing.{architecture_implies_format, is_none_or_unknown, shows_implied_format}
-use Rattle.target_lexicon.specs.{FixedPoints.RefusedPartsDoNotGrow, ImpliedFormat.wasm_or_elf, Printing.text_with}
+use Rattle.target_lexicon.proofs.{NamesAcross.environment_of-format, PrintingLemmas.names_after_system}
+use Rattle.target_lexicon.proofs.{PrintingLemmas.printed_names, ReadParts.absent, ReadParts.absent-none}
+use Rattle.target_lexicon.proofs.{ReadValues.read-holds, RoundTrips.is_same_format-is, SpecialRows.RowFacts}
+use Rattle.target_lexicon.proofs.SpecialRows.{prints_row, row_of_system, string_cases}
+use Rattle.target_lexicon.{proofs.StepCases.step_cases, specs.FixedPoints.CanonicalStringsGrowAtMost}
+use Rattle.target_lexicon.specs.FixedPoints.{PrintedStringsGrowAtMost, RefusedPartsDoNotGrow, max_growth}
+use Rattle.target_lexicon.specs.Printing.{is_none_or_unknown, shows_implied_format, text_with}
 use Rattle.target_lexicon.specs.declared.exception.RoundTripException.TheVariants as exceptions
 use Rattle.target_lexicon.specs.Values.operating_system
 use Rattle.target_lexicon.specs.Values.environment
@@ -110,28 +108,6 @@ system_growth-within s = search rules
 is_same_format-self : (f : BinaryFormat) → is_same_format f f ≡ true
 is_same_format-self f = search rules
 
--- the format that is shown of an architecture alone, with its dash
-abbrev alone_size : Architecture → ℕ
-alone_size a =
-    weight (cons_if (not (architecture_implies_format a) && not (is_same_format (wasm_or_elf a) binary_format.Unknown))
-    (binary_format_name (wasm_or_elf a)) [])
-
--- only an architecture whose format is short may have an alias that is shorter than its name
-alone-growth : (text : List ℕ) (a : Architecture) → architecture_of text ≡ Some a
-    → length (architecture_name a) + alone_size a ≤ length text + 6
-unfolding architecture_of
-alone-growth text a found =
-    leb-true _ _ (value_named-all
-    (λ pair. nat_le (length (architecture_name pair.1) + alone_size pair.1) (length pair.0 + 6))
-    architecture_texts text a refl found)
-
-weight-fewer : (a s e f : Bool) (part : List ℕ)
-    → weight (cons_if (a && s && e && f) part []) ≤ weight (cons_if (a && f) part [])
-weight-fewer a s e f part = search rules
-
-format-short : (f : BinaryFormat) → length (binary_format_name f) ≤ 7
-format-short f = search rules
-
 -- a special string is not longer than the parts that are shown otherwise
 
 system_shown : (a : Architecture) (s : OperatingSystem) → is_none_or_unknown s ≡ false
@@ -156,10 +132,7 @@ weight-row t b row is facts = omega (arith, facts.short, weight-shown t b, at_le
 
 special-short : (t : Values) (b : Bool) (n : ℕ) → length (join_with_byte dash (shown_names b t)) ≤ n
     → length (unwrap_or (special_string t) (join_with_byte dash (shown_names b t))) ≤ n
-special-short t b n short = elim (string_cases t) [
-  | inl none ↦ rw none short
-  | inr at ↦ rw (prints_row t at.0 at.1 at.2) (omega (arith, short, weight-row t b at.0 at.1 at.2))
-]
+special-short t b n short = search (rules, string_cases, prints_row, weight-row)
 
 unknown-environment : parses_as field.Environment (binary_format_name binary_format.Unknown) ≡ true
 unknown-environment = rw (environment_of-format binary_format.Unknown) refl
@@ -326,10 +299,13 @@ refused_does_not_grow text refusal (ordinary, ([], are, is)) = absurd (are.some 
 refused_does_not_grow text refusal (ordinary, (p ∷ ps, are, is)) =
     omega (arith, part-lighter (p ∷ ps) is.count refusal.part is.refused, weight-joined p ps, ap length are.joined)
 
--- the normal step makes no string longer
+-- the normal step makes no string longer, or it is that of a short special string
 
 abbrev DoesNotGrow : Values → Values → Type 0
 DoesNotGrow u t = length (string_of u) ≤ length (string_of t)
+
+abbrev GrowsLittle : Values → Values → Type 0
+GrowsLittle u t = (length (string_of u) ≤ max_growth) ⊎ DoesNotGrow u t
 
 -- if both print the same special string or none
 by_weight : (u t : Values) → special_string u ≡ special_string t → weight (printed_names u) ≤ weight (printed_names t)
@@ -341,21 +317,10 @@ by_weight u t special lighter = elim (cases_Option (special_string t)) [
   | inr some ↦ rw (special, some.1) (omega arith)
 ]
 
-special-does_not_grow : (t : Values) → HasSpecialFields t → DoesNotGrow (step_of (Some exceptions.PrintsAsSpecial) t) t
-unfolding string_of
-special-does_not_grow t has =
-    let at = row_of_fields t has in
-    let u = step_of (Some exceptions.PrintsAsSpecial) t in
-    let of_u : HasFieldsOf at.0 u = record {
-      architecture = at.1.architecture;
-      system = record { vendor = at.1.system.vendor; operating_system = at.1.system.operating_system };
-    } in
-    rw (prints_row u at.0 of_u at.2, prints_row t at.0 at.1 at.2) (omega arith)
-
-esp-does_not_grow : (t : Values) → PrintsTheEspIdfString t
-    → DoesNotGrow (step_of (Some exceptions.PrintsTheEspIdfString) t) t
-unfolding string_of shown_names special_string
-esp-does_not_grow t is = rw is (omega arith)
+special-length : (t : Values) → HasSpecialFields t
+    → length (string_of (step_of (Some exceptions.PrintsAsSpecial) t)) ≤ max_growth
+unfolding string_of special_string
+special-length t has = search rules
 
 -- the names of a triple with the vendor and the system of a row, if the environment isn't shown
 row-names : (a : Architecture) (row : SpecialRow) (e : Environment) (f : BinaryFormat) → RowFacts row
@@ -369,25 +334,12 @@ row-names a row e f facts hidden = search rules
 row-lighter : (a : Architecture) (row : SpecialRow) → RowFacts row → (f : BinaryFormat)
     → weight (printed_names (values a (Known row.vendor) row.operating_system environment.Unknown (elf_if_unknown f)))
     ≤ weight (printed_names (values a (Known row.vendor) row.operating_system environment.Newlib f))
-row-lighter a row facts binary_format.Unknown =
-    rw (
-      row-names a row environment.Unknown binary_format.Elf facts refl,
-      row-names a row environment.Newlib binary_format.Unknown facts (rw facts.newlib refl),
-    ) (omega arith)
-row-lighter a row facts f =
-    rw (
-      row-names a row environment.Unknown f facts refl,
-      row-names a row environment.Newlib f facts (rw facts.newlib refl),
-    ) (omega arith)
-
-lighter-by : (t : Values) (row : SpecialRow) → HasSystemOf row t → RowFacts row → t.environment ≡ environment.Newlib
-    → weight (printed_names (step_of (Some exceptions.HidesNewlib) t)) ≤ weight (printed_names t)
-lighter-by t row is facts newlib =
-    rw (newlib, is.vendor, is.operating_system) (row-lighter t.architecture row facts t.binary_format)
+row-lighter a row facts f = search (rules, row-names)
 
 newlib-lighter : (t : Values) → HidesNewlib t
     → weight (printed_names (step_of (Some exceptions.HidesNewlib) t)) ≤ weight (printed_names t)
-newlib-lighter t is = let at = row_of_system t is.system in lighter-by t at.0 at.1 at.2 is.environment
+unfolding shown_names
+newlib-lighter t is = search (rules, row_of_system, row-lighter)
 
 -- on an architecture that omits an unknown system
 alone-lighter : (a : Architecture) (v : VendorValue) (f : BinaryFormat) → omits_system a ≡ true
@@ -397,30 +349,22 @@ unfolding shown_names
 alone-lighter a v f omits = search rules
 
 no_string : (t : Values) → is_none_or_unknown t.operating_system ≡ true → special_string t ≡ None
-no_string t without = elim (string_cases t) [
-  | inl none ↦ none
-  | inr at ↦
-      let known : is_none_or_unknown t.operating_system ≡ false = (rw (at.1.system.operating_system)
-      at.2.operating_system) in absurd (true≢false (sym without ∙ known))
-]
+unfolding special_string
+no_string t without = search rules
 
 none-does_not_grow : (t : Values) → ShowsOnlyNone t → DoesNotGrow (step_of (Some exceptions.ShowsOnlyNone) t) t
-none-does_not_grow t is =
-    rw (is.operating_system, is.environment)
-    (by_weight _ _ (no_string _ refl ∙ sym (no_string _ refl))
-    (alone-lighter t.architecture t.vendor t.binary_format is.architecture))
+none-does_not_grow t is = search (rules, by_weight, no_string, alone-lighter)
 
-step-does_not_grow : (t : Values) → DoesNotGrow (normal_step t) t
-unfolding special_string
-step-does_not_grow t = step_cases (λ u. DoesNotGrow u t) t
-    (λ is. special-does_not_grow t is.fields)
-    (λ is. by_weight (step_of (Some exceptions.HidesNewlib) t) t refl (newlib-lighter t is))
-    (esp-does_not_grow t)
-    (none-does_not_grow t) (λ _. omega arith)
+step-grows : (t : Values) → GrowsLittle (normal_step t) t
+unfolding string_of special_string
+step-grows t = step_cases (λ u. GrowsLittle u t) t
+    (λ is. inl (special-length t is.fields))
+    (λ is. inr (by_weight (step_of (Some exceptions.HidesNewlib) t) t refl (newlib-lighter t is)))
+    (λ is. inl (rw is (omega arith))) (λ is. inr (none-does_not_grow t is)) (λ _. inr (omega arith))
 
 pub canonical_max_growth : PrintedStringsGrowAtMost → CanonicalStringsGrowAtMost
 canonical_max_growth printed text t reads =
-    omega (arith, step-does_not_grow (normal_step t), step-does_not_grow t, printed text t reads)
+    omega (arith, step-grows (normal_step t), step-grows t, printed text t reads)
 
 -- a string with a vendor that fits into memory fits into memory
 pub text_with-short : (b : Bool) (t : Values) → NamesAreShort architecture_name → NamesAreShort environment_name

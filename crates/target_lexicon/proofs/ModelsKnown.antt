@@ -14,9 +14,6 @@ use Rattle.target_lexicon.specs.{DataModel.sizes_of, declared.data_model.CDataMo
 
 -- the two models of 64-bit pointers
 
-by_convention_64 : (c : Option CallingConvention) (m : CDataModel) → convention_model_64 c ≡ Some m → m ≡ LP64
-by_convention_64 c m h = search rules
-
 off_llp64 : (a : Architecture) (c : Option CallingConvention) (m : CDataModel) → other_model_64 a c ≡ Some m → m ≡ LP64
 off_llp64 a c m h = search rules
 
@@ -27,9 +24,6 @@ at_64 a s m h = elim (cases_Bool (has_llp64 s)) [
 ]
 
 -- the one model of 32-bit pointers
-
-by_convention_32 : (c : Option CallingConvention) (m : CDataModel) → convention_model_32 c ≡ Some m → m ≡ ILP32
-by_convention_32 c m h = search rules
 
 off_ilp32 : (a : Architecture) (c : Option CallingConvention) (m : CDataModel) → other_model_32 a c ≡ Some m → m ≡ ILP32
 off_ilp32 a c m h = search rules

@@ -1,14 +1,12 @@
 -- The pieces that are written are the string of the triple.
 use Rattle.lexicon_fields.specs.OperatingSystem.{system_version, version_suffix}
 use Rattle.lexicon_fields.specs.declared.deployment_target.DeploymentTarget.{DeploymentTarget}
-use Rattle.std.proofs.{lemmas.Grind.common_steps, lemmas.List.append-nil}
-use Rattle.std.specs.{Bool.then_some, Borrow.Bor}
-use Rattle.target_lexicon.proofs.Common
-use Common.{OperatingSystem, binary_format_name, environment_name, join_with_byte, shows_environment, shows_unknowns, ℕ}
-use Common.{architecture_name, omits_unknown_system, operating_system_name, shows_binary_format, shows_operating_system}
-use Common.{if◌then◌else◌, Architecture, Environment, cons_if, shown_names, shows_vendor, special_string, vendor_name}
-use Common.{◌++◌, ◌||◌, ◌∷◌, ◌≡◌, Bool, List, None, Option, Values, [], ap, arith, dash, false, not, rules, sym, true}
-use Rattle.target_lexicon.specs.Values.{is_newlib, is_unknown_environment}
+use Rattle.std.{proofs.lemmas.Grind.common_steps, specs.Bool.then_some, specs.Borrow.Bor}
+use Rattle.target_lexicon.proofs.Common.{Bool, List, None, Option, Values, [], architecture_name, arith}
+use Rattle.target_lexicon.proofs.Common.{binary_format_name, cons_if, dash, environment_name, if◌then◌else◌}
+use Rattle.target_lexicon.proofs.Common.{join_with_byte, operating_system_name, rules, shown_names, shows_binary_format}
+use Rattle.target_lexicon.proofs.Common.{shows_environment, shows_operating_system, shows_unknowns, shows_vendor}
+use Rattle.target_lexicon.proofs.Common.{special_string, sym, true, vendor_name, ℕ, ◌++◌, ◌||◌, ◌∷◌, ◌≡◌}
 use Rattle.target_lexicon.specs.{Printing.text_with, Private.name_piece}
 use Rattle.target_lexicon.specs.Values.environment
 
@@ -31,16 +29,6 @@ unfoldable pub dashed : List (List ℕ) → List ℕ
 dashed [] = []
 dashed (part ∷ parts) = dash ∷ part ++ dashed parts
 
-pub dashed_joined : (part : List ℕ) (parts : List (List ℕ)) → part ++ dashed parts ≡ join_with_byte dash (part ∷ parts)
-unfolding dashed
-dashed_joined part [] = append-nil part
-dashed_joined part (next ∷ parts) = ap (λ (s : List ℕ). part ++ (dash ∷ s)) (dashed_joined next parts)
-
-part_before : (b : Bool) (part : List ℕ) (parts : List (List ℕ))
-    → dashed (cons_if b part parts) ≡ dashed_if b part ++ dashed parts
-unfolding dashed
-part_before b part parts = search rules
-
 five_parts : (a p q r s : List ℕ) (w x y z : Bool)
     → (((a ++ dashed_if w p) ++ dashed_if x q) ++ dashed_if y r) ++ dashed_if z s
     ≡ join_with_byte dash (a ∷ cons_if w p (cons_if x q (cons_if y r (cons_if z s []))))
@@ -50,11 +38,6 @@ five_parts a p q r s w x y z = grind (arith, common_steps)
 -- a name that is shown if this holds, as a piece
 pub name_piece-shown : (b : Bool) (name : Bor (List ℕ)) → name_piece (then_some b name) ≡ dashed_if b name.now
 name_piece-shown b name = search rules
-
--- a system that isn't shown has no version
-version-hidden : (a : Architecture) (s : OperatingSystem) → not (omits_unknown_system a s) ≡ false
-    → system_version s ≡ None
-version-hidden a s hidden = search rules
 
 -- a system that is shown if this holds, as a piece and its version
 system-shown : (last_three : Bool) (t : Values) (before : List ℕ) (prefix : Bor (List ℕ)) (b : Bool)
@@ -101,12 +84,6 @@ string_of_pieces last_three t a v s e f vendor system environment format version
     ) (five_parts _ _ _ _ _ _ _ _ _)
 
 -- an environment other than these two is always shown
-
-other_than_unknown : (e : Environment) → (e ≡ environment.Unknown → ⊥) → is_unknown_environment e ≡ false
-other_than_unknown e n = search rules
-
-other_than_newlib : (e : Environment) → (e ≡ environment.Newlib → ⊥) → is_newlib e ≡ false
-other_than_newlib e n = search rules
 
 pub other_environment_shown : (t : Values) → (t.environment ≡ environment.Unknown → ⊥)
     → (t.environment ≡ environment.Newlib → ⊥) → true ≡ shows_environment t

@@ -1,11 +1,10 @@
 -- The normal step keeps the answers of the four queries.
 use Rattle.lexicon_fields.specs.ArchitectureQueries.{architecture_width}
-use Rattle.lexicon_fields.specs.declared.pointer_width.PointerWidth.{PointerWidth}
-use Rattle.target_lexicon.proofs.Common.{Option, PrintsAsSpecial, Some, U32, Values, VendorValue, normal_step}
+use Rattle.target_lexicon.proofs.Common.{PrintsAsSpecial, Some, U32, Values, VendorValue, normal_step}
 use Rattle.target_lexicon.proofs.Common.{omits_system, pointer_width, refl, rules, sym, true, values}
-use Rattle.target_lexicon.proofs.Common.{◌∙◌, ◌≡◌, Architecture, BinaryFormat, Environment, None, OperatingSystem}
+use Rattle.target_lexicon.proofs.Common.{◌∙◌, ◌≡◌, Architecture, BinaryFormat, Environment, OperatingSystem}
 use Rattle.target_lexicon.proofs.{SpecialRows.row_of_fields, StepCases.step_cases}
-use Rattle.target_lexicon.specs.{Queries.model_of_width, Queries.wasm_convention, QueryLaws.HaveSameAnswers}
+use Rattle.target_lexicon.specs.{QueryLaws.HaveSameAnswers}
 use Rattle.target_lexicon.specs.Values.operating_system
 use Rattle.target_lexicon.specs.Values.environment
 use Rattle.target_lexicon.specs.Values.binary_format
@@ -22,11 +21,6 @@ narrow_width t narrow = search rules
 
 special-narrow : (t : Values) → PrintsAsSpecial t → architecture_width t.architecture ≡ Some U32
 special-narrow t special = let at = row_of_fields t special.fields in rw (at.1.architecture) at.2.narrow
-
--- where the architecture decides no convention, the systems `none` and `unknown` have the same models
-same_model : (x : Option PointerWidth) (a : Architecture) → wasm_convention a ≡ None
-    → model_of_width x a operating_system.None_ ≡ model_of_width x a operating_system.Unknown
-same_model x a none = search rules
 
 -- on an architecture that omits an unknown system neither the system nor the environment matters
 alone-alike : (a : Architecture) (v : VendorValue) (f : BinaryFormat) → omits_system a ≡ true

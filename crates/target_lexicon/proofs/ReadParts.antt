@@ -1,20 +1,19 @@
 -- The parts of a string are read one after the other. Where they end, and at a part that fills no field, this gives
 -- what the string reads as, or how it is refused.
-use Rattle.std.proofs.{lemmas.List.take-take, lemmas.Option.slice_get-map}
 use Rattle.target_lexicon.proofs.Common
-use Common.{IsRefusedAfter, IsValueOf, Known, List, MatchOption, None, NotGiven, Option, ParsesAs, PlacedPart, Some}
-use Common.{SourceValues, Unknown, Values, Vendor, [], ap, architecture_of, arith, binary_format_of, cases_Bool}
-use Common.{default_binary_format, environment_of, expected_after, false, field_for, field_number, inl, inr, is_some}
-use Common.{last_field, length, nat_eq, open_fields, operating_system_of, parses_as, part_at, parts_of, placed_from}
-use Common.{reading_from, refl, refusal_with, rules, slice_get, sources_at, sources_of, special_values, subst, suc, sym}
-use Common.{take, true, unwrap_or, values_of_ref, vendor_of, ℕ}
-use Common.{◌++◌, ◌∙◌, ◌∷◌, ◌≡◌, ◌≢◌, ◌≤◌, Field, HasPlacement, HoldsParts, Implied, IsLeastPlacement, IsRefusal}
-use Rattle.target_lexicon.proofs.GreedyPlacement.{Fills, filled-least, first-strings, placement_prefix, texts-placed}
-use Rattle.target_lexicon.proofs.GreedyPlacement.{State, Stop, Take, after, field-after, start, start-first, strings_of}
-use Rattle.target_lexicon.proofs.PartLemmas.{parts_of-are, parts_of-some}
-use Rattle.target_lexicon.proofs.SourceLemmas.{all-sources-in, placed-in}
-use Rattle.target_lexicon.specs.Explanation.{AreFieldsOf, AreInString, AreSourcesOf, FromPart, SourceValue, source_at}
-use Rattle.target_lexicon.specs.Explanation.{source_values, with_source}
+use Common.{HoldsParts, IsLeastPlacement, architecture_of, binary_format_of, default_binary_format, operating_system_of}
+use Common.{HasPlacement, IsRefusedAfter, SourceValues, environment_of, expected_after, special_values, values_of_ref}
+use Common.{MatchOption, PlacedPart, cases_Bool, field_number, open_fields, placed_from, reading_from, refusal_with}
+use Common.{Field, IsRefusal, IsValueOf, field_for, last_field, parses_as, slice_get, sources_at, sources_of, vendor_of}
+use Common.{Implied, Known, NotGiven, Option, ParsesAs, Unknown, Values, Vendor, inr, length, nat_eq, part_at, parts_of}
+use Common.{List, None, Some, arith, false, refl, rules, subst, suc, sym, take, true, ◌++◌, ◌∙◌, ◌∷◌, ◌≡◌, ◌≢◌, ◌≤◌}
+use Rattle.std.proofs.lemmas.{List.take-take, Option.slice_get-map}
+use Rattle.target_lexicon.proofs.{Common.[], Common.ap, Common.inl, Common.ℕ, GreedyPlacement.Fills}
+use Rattle.target_lexicon.proofs.GreedyPlacement.{State, Stop, Take, after, field-after, filled-least, first-strings}
+use Rattle.target_lexicon.proofs.GreedyPlacement.{placement_prefix, start, start-first, strings_of, texts-placed}
+use Rattle.target_lexicon.proofs.{PartLemmas.parts_of-are, PartLemmas.parts_of-some, SourceLemmas.all-sources-in}
+use Rattle.target_lexicon.{proofs.SourceLemmas.placed-in, specs.Explanation.AreFieldsOf, specs.Explanation.AreInString}
+use Rattle.target_lexicon.specs.Explanation.{AreSourcesOf, FromPart, SourceValue, source_at, source_values, with_source}
 use Rattle.target_lexicon.specs.Field.{Architecture, BinaryFormat, Environment, OperatingSystem}
 use Rattle.target_lexicon.specs.GreedyReading.{HasFilled, IsTaken, finished, finished_sources, first_field}
 use Rattle.target_lexicon.specs.{Parsing.IsExpectedAfter, Parsing.IsPlacement, declared.reading.Reading.Reading}
@@ -98,9 +97,6 @@ first-parses (g ∷ gs) p f found =
       | inl takes ↦ let is : Some g ≡ Some f = (rw takes at found) in cc
       | inr skips ↦ first-parses gs p f (rw skips at found)
     ]
-
-is-some : {A : Type 0} (o : Option A) (x : A) → is_some o ≡ true → o ≡ Some (unwrap_or o x)
-is-some o x is = search rules
 
 from-next : (f : Field) (p : PlacedPart) (a : State) → parses_as f p.text ≡ true → AreFrom a → AreFrom (after f p a)
 from-next f p a is is2 = search rules

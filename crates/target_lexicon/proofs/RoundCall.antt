@@ -1,10 +1,10 @@
 -- What the string of a triple is read as, or refused as, by the laws alone.
-use Rattle.target_lexicon.proofs.Common.{IsRefusedAs, List, MatchOption, None, Option, ParseError, ParsesAs, Refusal}
+use Rattle.target_lexicon.proofs.Common.{IsRefusedAs, List, None, Option, ParseError, ParsesAs, Refusal}
 use Rattle.target_lexicon.proofs.Common.{RoundIsNormalStep, Some, Values, exception, false, is_plain, normal_step}
 use Rattle.target_lexicon.proofs.Common.{rules, string_of, subst, sym, true, ℕ}
 use Rattle.target_lexicon.proofs.Common.{◌↔◌, ◌≡◌, Bool, ComesBack, EveryStringHasOneOutcome, HasVersionInRange, IfSome}
 use Rattle.target_lexicon.specs.FixedPoints.{CanonicalStringsAreKeys, FixedExactlyOutsideExceptions, OneStepSettles}
-use Rattle.target_lexicon.specs.Parsing.{IsErrorOf, IsRefusalOrOutOfMemory, MayAllocate}
+use Rattle.target_lexicon.specs.Parsing.{IsErrorOf, IsRefusalOrOutOfMemory}
 use Rattle.target_lexicon.specs.QueryLaws.{HaveSameAnswers, QueriesKept}
 
 pub read-step : EveryStringHasOneOutcome → RoundIsNormalStep → (t u : Values) → is_plain t.vendor ≡ true
@@ -42,11 +42,6 @@ pub refused-vendor : EveryStringHasOneOutcome → RoundIsNormalStep → (t : Val
 refused-vendor texts round t false is range (Some x) refused = is
 refused-vendor texts round t true is range (Some x) refused = absurd (not_refused texts round t is range x refused)
 refused-vendor texts round t b is range None refused = tt
-
--- the error of a string is its refusal or out of memory
-error-refused : (text : List ℕ) (found : Option Refusal)
-    → MatchOption found (MayAllocate text) (λ x. IsRefusedAs text x) → IfSome found (λ x. IsRefusedAs text x)
-error-refused text found is = search rules
 
 pub error-refusal : (text printed : List ℕ) (error : ParseError) → text ≡ printed → IsErrorOf text error
     → IsRefusalOrOutOfMemory printed error

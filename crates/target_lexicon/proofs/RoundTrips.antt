@@ -4,9 +4,9 @@ use Rattle.target_lexicon.proofs.Common
 use Common.{Architecture, BinaryFormat, HasSystemOf, HidesNewlib, normal_step, reading_from, shows_vendor, vendor_name}
 use Common.{Environment, SpecialRow, VendorValue, and_parts, is_plain, shown_names, true≢false, vendor_of, with_value}
 use Common.{HasVersionInRange, and-false, architecture_name, binary_format_name, shows_binary_format, shows_environment}
-use Common.{Ok, OperatingSystem, PrintsAsSpecial, elf_if_unknown, environment_name, is_unknown_vendor, reading_of_parts}
+use Common.{Ok, OperatingSystem, PrintsAsSpecial, elf_if_unknown, environment_name, reading_of_parts}
 use Common.{PrintsTheEspIdfString, default_binary_format, implied_format, operating_system_name, shows_operating_system}
-use Common.{ShowsOnlyNone, implies_newlib, is_same_format, omits_system, shows_unknowns, special_string, unknown_values}
+use Common.{ShowsOnlyNone, implies_newlib, is_same_format, omits_system, shows_unknowns, special_string}
 use Common.{◌&&◌, ◌||◌, Known, Refusal, Result, Unknown, Values, cons_if, false, is_some, rules, step_of, subst, values}
 use Common.{◌∙◌, ◌∷◌, ◌≡◌, ◌≢◌, ◌⊎◌, Bool, List, None, Some, [], ap, cond, inl, inr, not, refl, sym, true, ℕ}
 use Rattle.target_lexicon.proofs.NamesAcross.{NamesAreRead, environment_of-format, operating_system_of-environment}
@@ -74,9 +74,6 @@ shown_unless_unknown : (f i : BinaryFormat) (b : Bool)
 shown_unless_unknown f i b hidden same = search rules
 
 -- vendor and system that aren't shown
-
-unknown_vendor-is : (v : VendorValue) → is_unknown_vendor v ≡ true → v ≡ Known Unknown
-unknown_vendor-is v is = search rules
 
 hidden_vendor : (t : Values) → shows_vendor t ≡ false
     → (t.vendor ≡ Known Unknown) × (omits_unknown_vendor t.architecture t.operating_system t.environment ≡ true)
@@ -205,10 +202,6 @@ module _ (names : NamesAreRead) where
         (λ outside. outside-read outside.newlib _ refl)
 
   -- architecture, vendor and system, parsed back
-
-  first-read : (a : Architecture) → with_value field.Architecture (architecture_name a) unknown_values
-      ≡ unread a (Known Unknown) operating_system.Unknown
-  first-read a = rw (names.architecture.reads_back a tt) refl
 
   prefix : (a : Architecture) (v : VendorValue) (b : Bool) (rest : List (List ℕ)) (result : Result Values Refusal)
       → is_plain v ≡ true

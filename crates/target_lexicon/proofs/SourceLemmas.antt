@@ -1,12 +1,11 @@
 -- The sources that are parts are in the string.
-use Rattle.std.proofs.{lemmas.Grind.common_steps, lemmas.List.append-nil}
-use Rattle.target_lexicon.proofs.Common.{NotGiven, PlacedPart, Refusal, Some, SourceValues, Vendor, [], ap}
-use Rattle.target_lexicon.proofs.Common.{append_assoc, arith, cases_Bool, dash, drop, field_number, inl, inr}
-use Rattle.target_lexicon.proofs.Common.{join_with_byte, length, length-append, nat_eq, placed_from, refl, slice_get}
-use Rattle.target_lexicon.proofs.Common.{sources_at, subst, suc, sym, take, zero, ℕ}
-use Rattle.target_lexicon.proofs.Common.{◌++◌, ◌+◌, ◌-◌, ◌∙◌, ◌∷◌, ◌≡◌, ArePartsOf, Field, IsRefusedAfter, List}
-use Rattle.target_lexicon.specs.Explanation.{AreInString, IsInString, IsSourceInString, SourceValue, part_from}
-use Rattle.target_lexicon.specs.Explanation.{source_at}
+use Rattle.std.proofs.lemmas.{Grind.common_steps, List.append-nil}
+use Rattle.target_lexicon.proofs.Common.{ArePartsOf, Field, IsRefusedAfter, List, NotGiven, PlacedPart, Refusal, Some}
+use Rattle.target_lexicon.proofs.Common.{SourceValues, Vendor, [], ap, append_assoc, arith, cases_Bool, dash}
+use Rattle.target_lexicon.proofs.Common.{field_number, inl, inr, join_with_byte, length, length-append, nat_eq}
+use Rattle.target_lexicon.proofs.Common.{placed_from, refl, slice_get, sources_at, subst, suc, sym, zero, ℕ, ◌++◌, ◌+◌}
+use Rattle.target_lexicon.{proofs.Common.◌∙◌, proofs.Common.◌∷◌, proofs.Common.◌≡◌, specs.Explanation.AreInString}
+use Rattle.target_lexicon.specs.Explanation.{IsInString, IsSourceInString, SourceValue, part_from, source_at}
 use Rattle.target_lexicon.specs.Field.{Architecture, BinaryFormat, Environment, OperatingSystem}
 
 -- the parts, joined by dashes, are the end of the string from `start` on; there may be none
@@ -14,10 +13,6 @@ abbrev AreAt : List ℕ → ℕ → List (List ℕ) → Type 0
 AreAt text start [] = Unit {0}
 AreAt text start (p ∷ ps) =
     (before : List ℕ) × (length before ≡ start) × (text ≡ before ++ join_with_byte dash (p ∷ ps))
-
-range-at : (before p rest : List ℕ)
-    → take (length before + length p - length before) (drop (length before) (before ++ (p ++ rest))) ≡ p
-range-at before p rest = grind (arith, common_steps)
 
 -- a part that is followed by these bytes
 part-in : (text before p rest : List ℕ) (start : ℕ) → length before ≡ start → text ≡ before ++ (p ++ rest)

@@ -1,19 +1,16 @@
 -- Facts of the special strings, one after the other. All that other lemmas know of these strings is here, so that they
 -- say "each row".
-use Rattle.lexicon_fields.specs.{ArchitectureQueries.architecture_width, Names.value_named, Vendor.known_vendor_name}
 use Rattle.target_lexicon.proofs.Common
-use Common.{HasSpecialFields, HasSystemOf, HasVersionInRange, Known, List, None, Ok, OperatingSystem, Option, Refusal}
-use Common.{Result, Some, SpecialRow, U32, Values, VendorValue, [], ap, architecture_name, architecture_of, arith}
-use Common.{binary_format_of, bytes_eq, cases_Bool, cond, environment_of, false, false≢true, fixed_operating_system_of}
-use Common.{implied_format, implies_newlib, inl, inr, is_admitted, is_custom_esp, is_some, is_unknown_vendor}
-use Common.{known_vendor_of, length, map, operating_system_name, operating_system_of, parts_of, reading_of_parts, refl}
-use Common.{rules, special_string, special_triple, special_values, sym, true, values, vendor_of, ℕ}
-use Common.{◌+◌, ◌<◌, ◌^◌, ◌∙◌, ◌∷◌, ◌≡◌, ◌≤◌, ◌⊎◌, Architecture, BinaryFormat, Bool, Environment, Err, HasFieldsOf}
-use Rattle.target_lexicon.proofs.GreedyPlacement.{cases_Option}
-use Rattle.target_lexicon.specs.SpecialStrings.{special_pair, special_rows}
-use Rattle.target_lexicon.specs.{ExceptionFacts.SomeRow, Printing.is_none_or_unknown}
-use Rattle.target_lexicon.specs.Values.architecture
-use Rattle.target_lexicon.specs.Values.environment
+use Common.{HasVersionInRange, architecture_name, fixed_operating_system_of, operating_system_name, operating_system_of}
+use Common.{HasSpecialFields, OperatingSystem, architecture_of, binary_format_of, is_unknown_vendor, reading_of_parts}
+use Common.{SpecialRow, environment_of, implied_format, implies_newlib, known_vendor_of, special_string, special_triple}
+use Common.{Architecture, BinaryFormat, Environment, HasFieldsOf, HasSystemOf, is_custom_esp, special_values, vendor_of}
+use Common.{Err, Option, Refusal, Result, Values, VendorValue, bytes_eq, is_admitted, is_some, length, parts_of, values}
+use Common.{Bool, Known, List, None, Ok, Some, U32, arith, cond, false, inl, inr, map, refl, rules, true, ◌+◌, ◌<◌, ◌^◌}
+use Common.{[], ℕ, ◌∷◌, ◌≡◌, ◌≤◌, ◌⊎◌}
+use Rattle.lexicon_fields.specs.{ArchitectureQueries.architecture_width, Names.value_named, Vendor.known_vendor_name}
+use Rattle.target_lexicon.{proofs.GreedyPlacement.cases_Option, specs.ExceptionFacts.SomeRow}
+use Rattle.target_lexicon.specs.{Printing.is_none_or_unknown, SpecialStrings.special_pair, SpecialStrings.special_rows}
 use Rattle.target_lexicon.specs.Values.binary_format
 
 -- the parts of a special string are refused, or give a triple that is known to print the string
@@ -84,17 +81,6 @@ row-facts = (
 
 -- end of what is written
 
--- a triple that prints a special string has the fields of its row
-fields-by : (a : Architecture) (v : VendorValue) (s : OperatingSystem) (e : Environment) (f : BinaryFormat)
-    → is_some (special_string (values a v s e f)) ≡ true → HasSpecialFields (values a v s e f)
-unfolding special_string
-fields-by a v s e f is = search rules
-
--- a vendor and a system that imply `Newlib` are those of a row
-system-by : (a : Architecture) (v : VendorValue) (s : OperatingSystem) (e : Environment) (f : BinaryFormat)
-    → implies_newlib v s ≡ true → SomeRow (λ row. HasSystemOf row (values a v s e f)) special_rows
-system-by a v s e f is = search rules
-
 -- what holds for each row holds for one that has the property
 of_row : (P Q : SpecialRow → Type 0) (rows : List SpecialRow) → EachRow Q rows → SomeRow P rows
     → (row : SpecialRow) × P row × Q row
@@ -114,7 +100,8 @@ row_of_system t has = of_row (λ row. HasSystemOf row t) RowFacts special_rows r
 -- a triple has such fields if and only if it prints a special string
 
 pub fields_of_special : (t : Values) → is_some (special_string t) ≡ true → HasSpecialFields t
-fields_of_special t is = fields-by t.architecture t.vendor t.operating_system t.environment t.binary_format is
+unfolding special_string
+fields_of_special t is = search rules
 
 pub prints_row : (t : Values) (row : SpecialRow) → HasFieldsOf row t → RowFacts row → special_string t ≡ Some row.text
 unfolding special_string
@@ -122,50 +109,40 @@ prints_row t row is facts =
     rw (is.architecture, is.system.vendor, is.system.operating_system) (facts.prints t.environment t.binary_format)
 
 pub special_of_fields : (t : Values) → HasSpecialFields t → is_some (special_string t) ≡ true
-special_of_fields t has = let at = row_of_fields t has in ap is_some (prints_row t at.0 at.1 at.2)
+unfolding special_string
+special_of_fields t has = search rules
 
 pub no_special : (t : Values) → ¬ HasSpecialFields t → is_some (special_string t) ≡ false
-no_special t other =
-    elim (cases_Bool (is_some (special_string t))) [ inl is ↦ absurd (other (fields_of_special t is)) | inr is ↦ is ]
+unfolding special_string
+no_special t other = search rules
 
 -- a triple prints no special string, or that of a row
 pub string_cases : (t : Values)
     → (special_string t ≡ None) ⊎ ((row : SpecialRow) × HasFieldsOf row t × RowFacts row)
-string_cases t = elim (cases_Option (special_string t)) [
-  | inl none ↦ inl none
-  | inr some ↦ inr (row_of_fields t (fields_of_special t (ap is_some some.1)))
-]
+unfolding special_string
+string_cases t = search (rules, cases_Option, row_of_fields, fields_of_special)
 
 -- vendor and system are those of a row if and only if they imply `Newlib`
 
 pub system_of_newlib : (t : Values) → implies_newlib t.vendor t.operating_system ≡ true
     → SomeRow (λ row. HasSystemOf row t) special_rows
-system_of_newlib t is = system-by t.architecture t.vendor t.operating_system t.environment t.binary_format is
-
-newlib_row : (t : Values) (row : SpecialRow) → HasSystemOf row t → RowFacts row
-    → implies_newlib t.vendor t.operating_system ≡ true
-newlib_row t row is facts = rw (is.vendor, is.operating_system) facts.newlib
+system_of_newlib t is = search rules
 
 pub newlib_of_system : (t : Values) → SomeRow (λ row. HasSystemOf row t) special_rows
     → implies_newlib t.vendor t.operating_system ≡ true
-newlib_of_system t has = let at = row_of_system t has in newlib_row t at.0 at.1 at.2
+newlib_of_system t has = search rules
 
 -- the system of a row is a known one
 
 pub special_system : (t : Values) → HasSpecialFields t → is_none_or_unknown t.operating_system ≡ false
-special_system t has = let at = row_of_fields t has in rw (at.1.system.operating_system) at.2.operating_system
+special_system t has = search rules
 
 pub newlib_system : (t : Values) → SomeRow (λ row. HasSystemOf row t) special_rows
     → is_none_or_unknown t.operating_system ≡ false
-newlib_system t has = let at = row_of_system t has in rw (at.1.operating_system) at.2.operating_system
+newlib_system t has = search rules
 
 pub no_newlib : (v : VendorValue) (s : OperatingSystem) → is_none_or_unknown s ≡ true → implies_newlib v s ≡ false
-no_newlib v s none = elim (cases_Bool (implies_newlib v s)) [
-  | inl is ↦
-      absurd (let t = values architecture.Unknown v s environment.Unknown binary_format.Unknown in
-      let known = newlib_system t (system_of_newlib t is) in false≢true (sym known ∙ none))
-  | inr is ↦ is
-]
+no_newlib v s none = search rules
 
 -- a string that parses as a special one is that of a row
 

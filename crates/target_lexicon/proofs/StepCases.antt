@@ -1,17 +1,17 @@
 -- From the exception of a triple to the facts of its five fields, and back. So what holds in the case of each
 -- exception, and outside them, holds for the step.
 use Rattle.target_lexicon.proofs.Common
-use Common.{Architecture, BinaryFormat, Environment, HidesNewlib, VendorValue, ap, cases_Bool, is_admitted, normal_step}
-use Common.{Custom, Option, Values, and-false, and_parts, exception, false≢true, is_plain, is_some, step_of, values, ℕ}
+use Common.{Architecture, BinaryFormat, Environment, HidesNewlib, VendorValue, ap, is_admitted, normal_step}
+use Common.{Custom, Option, Values, and_parts, exception, false≢true, is_plain, is_some, step_of, values, ℕ}
 use Common.{HasSpecialFields, PrintsAsSpecial, RoundTripException, architecture_of, binary_format_of, known_vendor_of}
-use Common.{OperatingSystem, ShowsOnlyNone, implies_newlib, is_custom_esp, is_same_format, omits_system, special_string}
+use Common.{OperatingSystem, ShowsOnlyNone, implies_newlib, is_custom_esp, omits_system, special_string}
 use Common.{PrintsTheEspIdfString, environment_of, fixed_operating_system_of, omits_unknown_system, operating_system_of}
 use Common.{◌&&◌, ◌∙◌, ◌≡◌, ◌⊎◌, Bool, List, None, Some, codes, cond, false, inl, inr, refl, rules, subst, sym, true}
-use Rattle.target_lexicon.proofs.SpecialRows.{fields_of_special, newlib_of_system, no_special, row_of_fields}
+use Rattle.target_lexicon.proofs.SpecialRows.{fields_of_special, row_of_fields}
 use Rattle.target_lexicon.proofs.SpecialRows.{row_of_system, special_of_fields, system_of_newlib}
 use Rattle.target_lexicon.specs.ExceptionFacts.{ExceptionsAreFactsOfFields, HasNewlibAndElf, VendorIsNotPlain}
-use Rattle.target_lexicon.specs.{Exceptions.has_newlib_and_elf, Printing.architecture_implies_format}
-use Rattle.target_lexicon.specs.{Queries.wasm_convention, Values.is_newlib, Values.is_none_environment}
+use Rattle.target_lexicon.specs.{Exceptions.has_newlib_and_elf}
+use Rattle.target_lexicon.specs.{Values.is_newlib, Values.is_none_environment}
 use Rattle.target_lexicon.specs.declared.exception.RoundTripException.TheVariants as exceptions
 use Rattle.target_lexicon.specs.Values.architecture
 use Rattle.target_lexicon.specs.Values.riscv32
@@ -40,9 +40,6 @@ newlib-plain t is = rw ((row_of_system t is.system).1.vendor) refl
 
 pub newlib-is : (e : Environment) → is_newlib e ≡ true → e ≡ environment.Newlib
 newlib-is e is = search rules
-
-elf-is : (f : BinaryFormat) → is_same_format f binary_format.Elf ≡ true → f ≡ binary_format.Elf
-elf-is f is = search rules
 
 pub both-is : (t : Values) → has_newlib_and_elf t ≡ true → HasNewlibAndElf t
 both-is t is = search rules
@@ -98,45 +95,25 @@ facts t = facts-by t _ _ _ _ _ _ refl refl refl refl refl refl
 
 -- from the facts to the exception
 
-not_both : (t : Values) → ¬ HasNewlibAndElf t → has_newlib_and_elf t ≡ false
-not_both t others = elim (cases_Bool (has_newlib_and_elf t)) [ inl is ↦ absurd (others (both-is t is)) | inr is ↦ is ]
-
 pub special-exception : (t : Values) → PrintsAsSpecial t → exception t ≡ Some exceptions.PrintsAsSpecial
-special-exception t is = rw (special_of_fields t is.fields, not_both t is.others) refl
+unfolding special_string
+special-exception t is = search rules
 
 -- with the special string's own environment and format
 pub special-own : (t : Values) → HasSpecialFields t → HasNewlibAndElf t → exception t ≡ None
 special-own t has is = rw (special_of_fields t has, is.0, is.1) refl
 
 pub newlib-exception : (t : Values) → HidesNewlib t → exception t ≡ Some exceptions.HidesNewlib
-newlib-exception t is = rw (no_special t is.others, newlib_of_system t is.system, is.environment) refl
+unfolding special_string
+newlib-exception t is = search rules
 
 pub esp-exception : (t : Values) → PrintsTheEspIdfString t → exception t ≡ Some exceptions.PrintsTheEspIdfString
 unfolding special_string
 esp-exception t is = ap exception is
 
-unknown_system-other : (t : Values) → t.operating_system ≡ operating_system.Unknown → ¬ HasSpecialFields t
-unknown_system-other t unknown special = search rules
-
-alone-other : (a : Architecture) (v : VendorValue) (f : BinaryFormat)
-    → is_custom_esp a v operating_system.Unknown environment.None f ≡ false
-alone-other a v f = search rules
-
--- an architecture that omits an unknown system shows the implied format, and decides no convention
-pub alone-shows : (a : Architecture) → omits_system a ≡ true
-    → (architecture_implies_format a ≡ false) × (wasm_convention a ≡ None)
-alone-shows a is = search rules
-
 pub only_none-exception : (t : Values) → ShowsOnlyNone t → exception t ≡ Some exceptions.ShowsOnlyNone
-only_none-exception t is =
-    rw (
-      no_special t (unknown_system-other t is.operating_system),
-      is.operating_system,
-      is.environment,
-      and-false,
-      alone-other t.architecture t.vendor t.binary_format,
-      is.architecture,
-    ) refl
+unfolding special_string
+only_none-exception t is = search rules
 
 -- none of the four exceptions applies by which a triple with a plain vendor changes
 pub record IsOutside (t : Values) : Type 0 where

@@ -1,12 +1,11 @@
 -- A string has at most one outcome.
-use Rattle.target_lexicon.proofs.Common.{ArePartsOf, HoldsParts, IsRefusedAs, MatchOption, ap, last_field, refusal_with}
-use Rattle.target_lexicon.proofs.Common.{HasPlacement, PartsParseAs, [], environment_of, expected_after, special_values}
-use Rattle.target_lexicon.proofs.Common.{IsRefusal, IsValueOf, ParsesAs, Refusal, parts_of, slice_get, subst, vendor_of}
-use Rattle.target_lexicon.proofs.Common.{architecture_of, binary_format_of, default_binary_format, operating_system_of}
-use Rattle.target_lexicon.proofs.Common.{◌∙◌, ◌∷◌, ◌≡◌, Field, List, None, Option, Some, Values, refl, rules, sym, take}
-use Rattle.target_lexicon.proofs.GreedyPlacement.{least-unique, placement_prefix}
-use Rattle.target_lexicon.proofs.{Common.ℕ, PartLemmas.parts-only, SameValues.same_values}
-use Rattle.target_lexicon.specs.Parsing.{IsExpectedAfter, IsRefused}
+use Rattle.target_lexicon.proofs.Common
+use Common.{HasPlacement, architecture_of, binary_format_of, default_binary_format, environment_of, operating_system_of}
+use Common.{ArePartsOf, IsRefusal, IsRefusedAs, MatchOption, PartsParseAs, expected_after, refusal_with, special_values}
+use Common.{Field, HoldsParts, IsValueOf, Option, ParsesAs, Refusal, Values, last_field, parts_of, slice_get, vendor_of}
+use Common.{List, None, Some, [], ap, refl, rules, subst, sym, take, ℕ, ◌∙◌, ◌∷◌, ◌≡◌}
+use Rattle.target_lexicon.proofs.{GreedyPlacement.least-unique, GreedyPlacement.placement_prefix, PartLemmas.parts-only}
+use Rattle.target_lexicon.{proofs.SameValues.same_values, specs.Parsing.IsExpectedAfter, specs.Parsing.IsRefused}
 
 same_value : {A : Type 0} (find : List ℕ → Option A) (d e : A) (o : Option (List ℕ)) (x y : A) → d ≡ e
     → IsValueOf find d o x → IsValueOf find e o y → x ≡ y

@@ -1,10 +1,9 @@
 -- The words for byte order, pointer width, calling convention and data model are short.
-use Rattle.lexicon_fields.specs.declared.endianness.Endianness.{Endianness}
-use Rattle.lexicon_fields.specs.declared.pointer_width.PointerWidth.{PointerWidth}
-use Rattle.target_lexicon.proofs.Common.{◌≤◌, length, rules}
-use Rattle.target_lexicon.specs.Queries.{endianness_name, width_name}
-use Rattle.target_lexicon.specs.{CallingConvention.convention_name, declared.data_model.CDataModel.CDataModel}
-use Rattle.target_lexicon.specs.{DataModel.model_name, declared.calling_convention.CallingConvention.CallingConvention}
+use Rattle.lexicon_fields.specs.declared.{endianness.Endianness.Endianness, pointer_width.PointerWidth.PointerWidth}
+use Rattle.target_lexicon.proofs.Common.{length, rules, ◌≤◌}
+use Rattle.target_lexicon.specs.{CallingConvention.convention_name, DataModel.model_name, Queries.endianness_name}
+use Rattle.target_lexicon.specs.{Queries.width_name, declared.calling_convention.CallingConvention.CallingConvention}
+use Rattle.target_lexicon.specs.declared.data_model.CDataModel.{CDataModel}
 
 pub short-endianness : (e : Endianness) → length (endianness_name e) ≤ 6
 short-endianness e = search rules

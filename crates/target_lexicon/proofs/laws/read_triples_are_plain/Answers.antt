@@ -1,5 +1,4 @@
-use Rattle.target_lexicon.proofs.Common.{arith}
-use Rattle.target_lexicon.proofs.ReadValues.{read_plain, read_in_range}
+use Rattle.target_lexicon.proofs.{Common.arith, ReadValues.read_in_range, ReadValues.read_plain}
 use Rattle.target_lexicon.proofs.laws.read_triples_are_plain.Goals as goal
 
 pub returns : goal.returns

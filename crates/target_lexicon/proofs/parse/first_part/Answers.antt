@@ -1,6 +1,5 @@
-use Rattle.target_lexicon.proofs.Common.{◌≡◌, arith, get_or, rules, subst}
-use Rattle.std.specs.Str.{IsUtf8}
-use Rattle.std.proofs.lemmas.Str.{IsCharBoundary-after_ascii}
+use Rattle.std.{proofs.lemmas.Str.IsCharBoundary-after_ascii, specs.Str.IsUtf8}
+use Rattle.target_lexicon.proofs.Common.{arith, get_or, rules, subst, ◌≡◌}
 use Rattle.target_lexicon.proofs.PartLemmas.{parts_of-cut-at, parts_of-whole}
 use Rattle.target_lexicon.proofs.parse.first_part.Goals as goal
 

@@ -1,8 +1,7 @@
 -- Six pieces are written one after the other, and what was written is these pieces so far.
-use Rattle.target_lexicon.proofs.Common.{rules, subst, sym, has_written_styled_append}
-use Rattle.std.proofs.Output.{has_written_styled_nil}
-use Rattle.std.specs.Fmt.{HasWrittenStyled, IsDefaultSpec}
 use Rattle.lexicon_fields.specs.OperatingSystem.{version_suffix}
+use Rattle.std.{proofs.Output.has_written_styled_nil, specs.Fmt.HasWrittenStyled, specs.Fmt.IsDefaultSpec}
+use Rattle.target_lexicon.proofs.Common.{has_written_styled_append, rules, subst, sym}
 use Rattle.target_lexicon.proofs.display.PiecesDisplay.fmt.Goals.{in-Some+in_ok-write_str-2, in_default}
 use Rattle.target_lexicon.proofs.display.PiecesDisplay.fmt.Goals as goal
 

@@ -1,8 +1,7 @@
-use Rattle.target_lexicon.proofs.Common.{◌≡◌, Err, List, Ok, Result, inl, ℕ, IfErr, IsRefusedAs, Refusal, values_of}
-use Rattle.target_lexicon.proofs.Common.{ParseError, Triple}
 use Rattle.std.specs.Result.{IsErrAnd}
+use Rattle.target_lexicon.proofs.Common.{Err, IfErr, IsRefusedAs, List, Ok, ParseError, Refusal, Result, Triple, inl}
+use Rattle.target_lexicon.proofs.{Common.values_of, Common.ℕ, Common.◌≡◌, ReadValues.read_plain}
 use Rattle.target_lexicon.specs.{Parsing.IsErrorOf, declared.parse_error.ParseError.TheVariants.OutOfMemory}
-use Rattle.target_lexicon.proofs.ReadValues.{read_plain}
 use Rattle.target_lexicon.proofs.triple.Triple.from_str.Goals as goal
 
 -- parsing a refused string may run out of memory

@@ -1,6 +1,5 @@
-use Rattle.target_lexicon.proofs.Common.{◌<◌, ◌^◌, List, length, rules, subst, sym, ℕ, upstream_string_of}
-use Rattle.target_lexicon.proofs.Common.{values_of_ref}
-use Rattle.target_lexicon.proofs.Lengths.{text_with-short}
+use Rattle.target_lexicon.proofs.Common.{List, length, rules, subst, sym, upstream_string_of, values_of_ref, ℕ, ◌<◌}
+use Rattle.target_lexicon.proofs.{Common.◌^◌, Lengths.text_with-short}
 use Rattle.target_lexicon.proofs.triple_ref.TripleRef.write_upstream_to.Goals as goal
 
 pub write_to-requires : goal.write_to-requires
