@@ -25,7 +25,7 @@ pub struct TextPart<'a> {
 }
 
 impl TextPart<'_> {
-    ghost use Rattle.std.specs.Prelude.{◌≡◌, ◌^◌, ◌<◌};
+    ghost use Rattle.std.specs.Prelude.{◌≡◌, ◌^◌, ◌<◌, ◌≤◌};
     ghost use Rattle.target_lexicon.specs.Explanation.{part_end, part_value};
 
     /// The range of the part in the string, in bytes.
@@ -42,6 +42,7 @@ impl TextPart<'_> {
         ensures start { result.start ≡ self.now.start }
         ensures end { part_end (part_value self.now) < 2 ^ 64
             → result.end ≡ part_end (part_value self.now) }
+        ensures order { result.start ≤ result.end }
     {
         self.start..self.start.saturating_add(self.text.len())
     }

@@ -37,7 +37,7 @@ pub struct Refusal<'a> {
 }
 
 impl Refusal<'_> {
-    ghost use Rattle.std.specs.Prelude.{◌^◌};
+    ghost use Rattle.std.specs.Prelude.{◌^◌, ◌≤◌};
     ghost use Rattle.target_lexicon.specs.Explanation.{part_end, part_value};
 
     /// The range of the refused part in the string, in bytes.
@@ -55,6 +55,7 @@ impl Refusal<'_> {
         ensures start { result.start ≡ self.now.part.start }
         ensures end { part_end (part_value self.now.part) < 2 ^ 64
             → result.end ≡ part_end (part_value self.now.part) }
+        ensures order { result.start ≤ result.end }
     {
         self.part.range()
     }
