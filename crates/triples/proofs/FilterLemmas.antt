@@ -57,20 +57,11 @@ short-word name most some short o = search rules
 
 pub facts-short : (t : Values) → length (facts_of t) ≤ 32
 facts-short t =
-    let order = spaced_word (option_map endianness_name (endianness t)) in
-    let width = spaced_word (option_map width_name (pointer_width t)) in
-    let convention = spaced_word (option_map convention_name (calling_convention t)) in
-    let model = spaced_word (option_map model_name (data_model t)) in
-    omega (
-      arith,
-      length-append order (width ++ (convention ++ model)),
-      length-append width (convention ++ model),
-      length-append convention model,
-      short-word endianness_name 6 (lit≤ tt) short-endianness (endianness t),
-      short-word width_name 2 (lit≤ tt) short-width (pointer_width t),
-      short-word convention_name 15 (lit≤ tt) short-convention (calling_convention t),
-      short-word model_name 5 (lit≤ tt) short-model (data_model t),
-    )
+    let order = short-word endianness_name 6 (lit≤ tt) short-endianness (endianness t) in
+    let width = short-word width_name 2 (lit≤ tt) short-width (pointer_width t) in
+    let convention = short-word convention_name 15 (lit≤ tt) short-convention (calling_convention t) in
+    let model = short-word model_name 5 (lit≤ tt) short-model (data_model t) in
+    simp length-append (omega arith)
 
 -- what a mode shows is not much longer than the line
 pub shown-short : PrintedStringsGrowAtMost → CanonicalStringsGrowAtMost → (mode : LineMode) (line : List ℕ) (t : Values)
@@ -217,15 +208,11 @@ module _ (mode : LineMode) (late : Bool) (bytes : List ℕ) where
   answers-line late_then rest output at answer far shorter ends is size before within fits =
       let now = far size before within fits in
       let line = take at rest in
-      let others = drop (at + 1) rest in
       let less : length line < size = omega (arith, length-take at rest, ends.0, shorter, within) in
-      let one = filtered-line mode size (now.0 ++ line) others answer
+      let one = filtered-line mode size (now.0 ++ line) (drop (at + 1) rest) answer
       (late-no-feed late_then size now.0 line now.2 ends.1)
       (line-answer mode late_then size now.0 line answer now.2 less is) in
-      let cut : now.0 ++ rest ≡ (now.0 ++ line) ++ (line_feed ∷ others) = ap (λ (t : List ℕ). now.0 ++ t) ends.2
-      ∙ sym (append_assoc now.0 line (line_feed ∷ others)) in
-      let mid = subst (λ (t : List ℕ). IsFilteredTo mode size (before ++ bytes) t output) cut now.1 in
-      ([], filtered-then mode size (before ++ bytes) _ others output (written_lines (answer ∷ [])) mid one, refl)
+      ([], search (rules, filtered-then, append_assoc), refl)
 
 -- the last line
 late-some : (late : Bool) (size : ℕ) (before bytes : List ℕ) → length bytes < size → (late ≡ false → 0 < length bytes)

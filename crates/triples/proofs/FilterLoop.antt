@@ -198,27 +198,14 @@ module _ {mode : LineMode} {size count : ℕ} {late : Bool} {held : List ℕ} {r
     between-more start some done =
         let it = state.answered in
         let next = done.5 size state.before fits state.is_late in
-        record {
-          before = next.0;
-          answered = record {
-            bytes = it.bytes ++ more;
-            output = it.output ++ done.3;
-            given = given-more r2 (Moved more) known is;
-            taken = takes-then it.taken done.4;
-            filtered =
-                filtered-then mode size (it.bytes ++ more) (state.before ++ piece) (next.0 ++ drop start piece)
-                it.output done.3 (far more piece holds) next.1;
-            counted = omega (arith, some, it.counted, length-append it.bytes more);
-            not_ended = λ _. ap ends_last is;
-            input_unfailed = omega (arith, failures r2 (Moved more) known is);
-            written_unfailed = done.0 ∙ it.written_unfailed;
-            only_reads = omega (arith, stops r2 (Moved more) known is);
-            only_writes = done.6 ∙ it.only_writes;
-            prompt = more-reads r2 (Moved more) known is;
-          };
-          is_late = next.2;
-          none = done.2;
-        }
+        let given = given-more r2 (Moved more) known is in
+        let reads = more-reads r2 (Moved more) known is in
+        let failed = failures r2 (Moved more) known is in
+        let stopped = stops r2 (Moved more) known is in
+        let taken = takes-then it.taken done.4 in
+        let filtered = filtered-then mode size (it.bytes ++ more) (state.before ++ piece) (next.0 ++ drop start piece)
+        it.output done.3 (far more piece holds) next.1 in
+        search (rules, common_steps, length-append)
 
     -- a write failed
     pub ends-write : EveryStringHasOneOutcome → (e : FilterError)
