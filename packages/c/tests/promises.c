@@ -276,8 +276,9 @@ static void try_parse(struct asked *it) {
   EXPECT(lexicon_parse_strict(it->text, it->size, &same, NULL) == (is_custom ? LEXICON_UNRECOGNIZED_VENDOR : status));
 }
 
-/* A string as a name of each dialect, and of none. */
+/* A string as a name of each dialect, and of none; and what is suggested and noted in one of these. */
 static void try_read(struct asked *it) {
+  const uint32_t chosen = it->numbers[0];
   struct lexicon_triple triple;
   char *text;
   for (uint32_t dialect = 0; dialect <= LAST_DIALECT + 1; dialect++) {
@@ -295,6 +296,7 @@ static void try_read(struct asked *it) {
       EXPECT((it->error.reason != NULL) == (status == LEXICON_NAME_WITHOUT_TRIPLE));
       try_written_error(it, status);
     }
+    if (dialect != chosen) continue;
     enum lexicon_status suggested = try_call(name_suggestion, it, &text);
     EXPECT(suggested == LEXICON_OK ? status == LEXICON_UNKNOWN_NAME && strlen(text) <= 36
         : suggested == LEXICON_NO_SUGGESTION);
@@ -302,6 +304,7 @@ static void try_read(struct asked *it) {
     enum lexicon_status noted = try_call(note, it, &text);
     EXPECT(noted == LEXICON_OK ? dialect == 0 || status == LEXICON_UNKNOWN_NAME : noted == LEXICON_NO_SUGGESTION);
   }
+  it->numbers[0] = chosen;
 }
 
 /* What is found in a string are parts of it, from its start to its end; no element after these is written. */
@@ -404,9 +407,9 @@ int LLVMFuzzerTestOneInput(const uint8_t *data, size_t data_size) {
   try_parse(it);
   try_parts(it, it->error.status != LEXICON_NOT_UTF8);
   try_lines(it);
-  try_read(it);
   for (size_t i = 0; i < 4; i++) it->numbers[i] = how[1 + i] % 17u;
   it->numbers[1] %= 10;
+  try_read(it);
   try_translation(it);
   if (lexicon_parse(it->text, it->size, &it->triple, &it->error) == LEXICON_OK) it->error.status = LEXICON_OK;
   EACH(call, of_strings) try_call(*call, it, &text);
