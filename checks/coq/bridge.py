@@ -2,15 +2,26 @@
 Coq checks the proofs. That the statements are those of the source's theorems is trusted, as PROOF.md says."""
 import re
 
+import compiled
+import derived
+import shipped
 from reading import Untranslated
 
 HEAD = """(* Written by checks/theorem. *)
-Require Import Kit Specs Rust Code Configured Mir Bridge.
-Ltac simp ::= cbv beta iota zeta delta [fst snd negb andb orb set_at shr_in result_eqb {projections}].
+Require Import Kit Specs Rust Std Code Configured Mir Bridge.
+Ltac simp ::= cbv beta iota zeta delta [fst snd negb andb orb set_at shr_in result_eqb result_eq
+  option_branch option_from_residual result_branch result_from_residual {projections}].
 """
 # The proofs that don't go by the tactic.
 BY_HAND = {"mir_short_word": "destruct v1 as [|a [|b [|c [|d xs]]]]; [vm_compute; reflexivity..|]; "
                              "rewrite ?long by reflexivity; bridge"}
+# The numbers of a version in Rust are in the range that the theorems suppose.
+RANGE = """
+Theorem mir_versions_in_range : ∀ v, mir_range_DeploymentTarget v → IsVersionInRange v.
+Proof. intros v H. unfold mir_range_DeploymentTarget in H. repeat split; apply H. Qed.
+"""
+# The traits whose functions the source's translator doesn't write, but Traits.v and Orders.v are of.
+OF_MIR = ("std::Clone", "std::Hash", "std::Ord", "std::PartialOrd")
 
 
 def heads(code):
@@ -43,7 +54,7 @@ def counterpart(title, it, source):
 class Bridge:
     def __init__(self, crate, code):
         self.crate, self.code, self.source, self.lemmas, self.out = crate, code, heads(code), {}, []
-        self.about = {"copy_into": ["copy_guard"]}  # the lemmas that rewrite a word
+        self.about = {"copy_into": ["copy_guard"], "option_eq": ["option_eq_total"]}  # the lemmas that rewrite a word
         projections = {p for fields in crate.types.fields.values() for p in fields}
         projections |= {*re.findall(r"^  (\w+__\w+) :", code, re.M)}
         projections |= {*re.findall(r"^Definition (rs_[A-Z_]+) : ℕ :=\s*\d{5,}\.$", code, re.M)}  # MIR has the number
@@ -67,11 +78,6 @@ class Bridge:
         if title.endswith("_pure"):
             self.lemma(name, f"∀{binders}, {title}{args} = {of}{args}", f"intros; unfold {title}, {of}; bridge", title,
                        code + body)
-            if it.key[2] == "eq":
-                of_type = self.crate.types.coq(it.parameters[0][1])
-                self.lemma(f"{name}_option",
-                           f"∀ x y, option_eqb {title} x y = option_eqb (λ x y : {of_type}, {of} x y) x y",
-                           f"intros [x|] [y|]; cbn; try reflexivity; apply {name}", title)
         else:
             right = f"{of}{' fuel' * has_fuel}{args}"
             right = right if result.startswith("option (") else f"Some ({right})"
@@ -84,6 +90,11 @@ class Bridge:
             self.lemma(name, f"{quantified}{title} fuel{args} = {right}", proof + BY_HAND.get(title, usual), title,
                        code + body)
             self.lemmas[title] = name, of
+            if it.key[2] == "eq" and it.parameters[0][1] == it.parameters[1][1]:
+                of_type = self.crate.types.coq(it.parameters[0][1])
+                self.lemma(f"{name}_option", f"∀ fuel x y, option_eq ({title} fuel) x y = "
+                           f"Some (option_eqb (λ x y : {of_type}, {of} x y) x y)",
+                           f"intros fuel [x|] [y|]; cbn; try reflexivity; apply {name}", title)
 
     def constant(self, title):
         of = "rs" + title.removeprefix("mir")
@@ -148,3 +159,33 @@ class Bridge:
              "let T := eval cbv beta in T in exact T end"
         return f"Theorem mir_{name} : ltac:({s}).\nProof. exists {', '.join(found)}. " \
                f"exact {' '.join(proof)} {of}{')' * len(proof)}. Qed."
+
+
+@compiled.forms()
+def write(root, folder, translated=None):
+    """Writes Mir.v, Same_mir.v, Compiled.v and Derived.v. Returns the theorems. The types are those of the translated
+    source, which is this one if it isn't said."""
+    proofs = {it: compiled.HERE.joinpath(f"rust/{it}.v").read_text(encoding="utf-8")
+              for it in shipped.CONFIGURATIONS["rust"][1]}
+    theorems = re.findall(r"^Theorem (\w+)", "".join(proofs.values()), re.M)
+    texts = {it: folder.joinpath(f"{it}.v").read_text(encoding="utf-8") for it in ("Specs", "Code", "Configured")}
+    crate = compiled.source(root, "".join(texts.values()))
+    unwritten = compiled.all_of(crate)
+    if unknown := [f"{why} (in {it})" for it, why in unwritten.items() if it not in compiled.LEFT_OUT]:
+        raise Untranslated(unknown[0])
+    without_alloc = shipped.configurations(translated or root, texts["Specs"])["no_alloc"][1]
+    compiled.same_without_alloc(root, crate, texts["Specs"] + "\n".join(without_alloc))
+    put = lambda name, text: folder.joinpath(f"{name}.v").write_text(text, encoding="utf-8")  # noqa: E731
+    put("Mir", "(* Written by checks/theorem from what rustc compiles. *)\n"
+        "Require Import Kit Specs Rust Code Configured.\n\n"
+        + "\n".join([*(code for _, _, code in crate.out), *crate.types.ranges()]))
+    made = Bridge(crate, texts["Code"] + texts["Configured"])
+    put("Same_mir", made.write())
+    put("Compiled", made.theorems(theorems, proofs) + RANGE)
+    put("Derived", derived.write(crate, made.projections))
+    for title, it, _ in crate.out:
+        if it and not title.endswith("_pure") and title not in made.lemmas and it.key[0] not in OF_MIR:
+            raise Untranslated(f"no function of the source is equal to it (in {compiled.path(it)})")
+    others = "".join(compiled.HERE.joinpath(f"mir/{it}.v").read_text(encoding="utf-8") for it in ("Orders", "Borrowed"))
+    others = re.findall(r"^Theorem (\w+)", others, re.M)
+    return dict.fromkeys([*(f"mir_{it}" for it in (*theorems, "versions_in_range")), *derived.SAID, *others])

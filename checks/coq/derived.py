@@ -73,7 +73,7 @@ def write(crate, projections):
         out.append(f"Definition fed_{of} : {type} → Fed := fed_by {title}.\n"
                    f"Lemma hash_{of} : ∀ n v before, {title} n v before = Some (tt, before ++ fed_{of} v).\n"
                    f"Proof. hashed fed_{of} {title}. Qed.")
-        if number := re.search(r"feed by_isize \[(\(match v1 with .*? end\))\] v2", code):  # of the variant, first
+        if number := re.search(r"hash_number by_isize\) (\(match v1 with .*? end\)) v2", code):  # of the variant, first
             out.append(f"Definition tag_{of} (v1 : {type}) : ℕ := {number[1]}.\n"
                        f"Lemma head_{of} : ∀ v, fed_{of} v = (by_isize, [tag_{of} v]) ∷ tl (fed_{of} v).\n"
                        f"Proof. intros v. destruct v; fed_of fed_{of} {title}; reflexivity. Qed.")

@@ -1,10 +1,14 @@
 """Writes what rustc compiles as Coq, off its MIR: `mir_NAME fuel args`, an option of the result, and of what each
 `&mut` argument refers to then. None is a panic, or too little fuel."""
 import re
+import sys
 
 from mir_body import Body
-from mir_grammar import Function, Unknown, clean, read_hir, read_mir
+from mir_grammar import Function, Unknown, read_hir, read_mir
 from mir_types import Types, referred, strip
+from reading import Untranslated
+
+sys.setrecursionlimit(10_000)  # a call for each block on a path
 
 
 class Crate:
@@ -12,11 +16,11 @@ class Crate:
     Types, Body = Types, Body
 
     def __init__(self, mir, hir, known):
-        self.functions, self.constants, self.statics = read_mir(mir)
         declared, self.impls = read_hir(hir)
+        self.functions, self.constants, self.statics = read_mir(self.converted(mir, declared))
         self.by, self.out, self.titles = {}, [], {}
         self.types = self.Types(self, declared, known)
-        self.written = {}  # what was written, or why it can't be
+        self.written = {}
         self.closures = {}
         if any(it.trait == "std::Drop" for it in self.impls):
             raise Unknown("an impl of Drop")
@@ -24,19 +28,17 @@ class Crate:
             if (it.trait or "").startswith("std::") and sum(name[0].islower() for name in it.methods) > 1:
                 raise Unknown(f"an impl of {it.trait} with another function than the one without which there is none")
         for it in self.functions:
-            self.convert(it)
             it.key = self.key(it)
             self.by.setdefault(it.key, []).append(it)
 
-    def convert(self, it):
-        """An `impl Into` has its name from the source. It is what its `into` returns, or a type of this name."""
-        it.into = [type.startswith("impl Into<") for _, type in it.parameters]
-        for given in {type for _, type in it.parameters if type.startswith("impl Into<")}:
-            called = re.search(r"<impl Into<[^\n]*> as core::convert::Into<([^\n]*)>>::into\(", it.text)
-            named = [path for path in self.types.declared if path.endswith("::" + given[len("impl Into<"):-1])]
-            real = clean(called[1]) if called else named[0] if len(named) == 1 else given
-            it.parameters = [(n, real if type == given else type) for n, type in it.parameters]
-            it.types = {n: real if type == given else type for n, type in it.types.items()}
+    def converted(self, mir, declared):
+        """MIR where each `impl Into` of a type, named as in the source, is this type, which std makes of itself."""
+        for given, name in {*re.findall(r"\b(impl Into<(\w+)(?:<'\w+>)?>)", mir)}:
+            paths = [path for path in declared if path.split("::")[-1] == name]
+            if len(paths) != 1:
+                raise Unknown(f"the type of {given}")
+            mir = mir.replace(given, paths[0])
+        return mir
 
     def key(self, function):
         """The trait, the type and the name of a function: those of its impl."""
@@ -56,24 +58,11 @@ class Crate:
         """The function of a key, with these types of arguments, or none."""
         found = self.by.get(key, [])
         if types:  # of another impl, such as of a reference, they are others
-            found = [it for it in found if all(a == b or a == "?" and not key[0] or into for a, (_, b), into in zip(
-                types, it.parameters, it.into))]
+            found = [it for it in found if all(a == b or a == "?" and not key[0] for a, (_, b) in zip(
+                types, it.parameters))]
         if len(found) > 1:
             raise Unknown(f"{len(found)} functions {key[2]} of {key[1]}")
-        if found or not key[0] or (None, key[0], key[2]) not in self.by:
-            return found[0] if found else None
-        if not any((it.trait, it.owner) == key[:2] and key[2] not in it.methods for it in self.impls):
-            raise Unknown(f"the call of {key[2]} of the trait {key[0]}, which {key[1]} isn't known to have")
-        # a trait's own body
-        body = self.find((None, key[0], key[2]))
-        def own(text):
-            return re.sub(r'"(?:[^"\\]|\\.)*"|\bSelf\b', lambda m: key[1] if m[0] == "Self" else m[0], text)
-        it = Function(body.path, "", own(body.result), own(body.text))
-        it.parameters = [(n, own(type)) for n, type in body.parameters]
-        it.types = {n: own(type) for n, type in body.types.items()}
-        it.into, it.promoted, it.key = body.into, body.promoted, key
-        self.by[key] = [it]
-        return it
+        return found[0] if found else None
 
     def function_of(self, type):
         """The function of a closure, whose first parameter is it."""
@@ -85,27 +74,18 @@ class Crate:
 
     def closure(self, type):
         """The function of the other parameters of a closure, which captures nothing."""
-        if type not in self.closures:
-            it = self.function_of(type)
-            if re.search(r"\b_1\b", it.text):
-                raise Unknown(f"what {type} captures")
-            made = self.closures[type] = Function(it.path, "", it.result, it.text)
-            made.parameters, made.types, made.promoted = it.parameters[1:], it.types, it.promoted
-        return self.closures[type]
+        it = self.function_of(type)
+        if re.search(r"\b_1\b", it.text):
+            raise Unknown(f"what {type} captures")
+        made = Function(it.path, "", it.result, it.text)
+        made.parameters, made.types, made.promoted = it.parameters[1:], it.types, it.promoted
+        return made
 
     def all(self):
-        """All functions but closures and constructors; a trait's own ones for each type that has the trait."""
+        """All functions but closures and constructors."""
         for it in self.functions:
-            is_constructor = {it.path, it.path.rpartition("::")[0]} & {*self.types.declared}
-            if not it.path.endswith("}") and not is_constructor and not any(
-                    re.search(r"\bSelf\b", type) for _, type in it.parameters):
+            if not it.path.endswith("}") and not {it.path, it.path.rpartition("::")[0]} & {*self.types.declared}:
                 yield it
-        for it in self.impls:
-            for _, trait, name in [key for key in self.by if key[:2] == (None, it.trait)]:
-                if name not in it.methods and not it.owner:
-                    raise Unknown(f"{trait}::{name} of types that aren't known")
-                if name not in it.methods:
-                    yield self.find((it.trait, it.owner, name))
 
     def name(self, it):
         """What a function is called in Coq."""
@@ -123,28 +103,21 @@ class Crate:
 
     def write(self, it, pure=False):
         """Writes a function, and what it calls before. Returns its name. A pure one has no fuel, and can't panic."""
-        known = self.written.get(at := (it.path, it.key, str(it.parameters), pure))
-        if isinstance(known, Unknown):
-            raise Unknown(f"calls {it.key[2]}: {known}")
-        if known:
+        at = it.path, it.key, str(it.parameters), pure
+        if at in self.written:
             it.recursive = it.recursive or not it.finished
-            return known
+            return self.written[at]
         it.recursive = it.finished = False
-        title = self.name(it) + "_pure" * pure
-        self.written[at] = title
-        it.mutable = [n for n, type in it.parameters if type.startswith("&mut ")]
+        title = self.written[at] = self.name(it) + "_pure" * pure
         try:
             binders = "".join(f" (v{n} : {self.types.coq(type)})" for n, type in it.parameters)
             of = self.types.coq(it.result)
-            for n, type in it.parameters:
-                of = f"({of} × {self.types.coq(type)})" if n in it.mutable else of
+            for _, type in it.parameters:
+                of = f"({of} × {self.types.coq(type)})" if type.startswith("&mut ") else of
             code = self.Body(self, it, pure).whole()
-        except Unknown as why:
-            self.written[at] = why
-            raise
-        except (AttributeError, IndexError, KeyError, TypeError, ValueError, StopIteration) as why:
-            self.written[at] = Unknown(f"a form that isn't known: {why!r}")
-            raise self.written[at] from why
+        except (Untranslated, AttributeError, IndexError, KeyError, TypeError, ValueError, StopIteration) as why:
+            del self.written[at]
+            raise Unknown(str(why) if isinstance(why, Untranslated) else f"a form that isn't known: {why!r}") from why
         it.finished = True
         kind = "Fixpoint" if it.recursive else "Definition"
         if it.recursive:

@@ -1,19 +1,15 @@
-"""Writes the body of a function of MIR as Coq, along its dominators.
-
-A block with several predecessors is a local function of the variables that may differ; a loop is Rust.v's `loop` of
-those that are live at its head. A shared reference is what it refers to, as no type that is known has a value that
-changes behind one. A `&mut` is the place that it borrows."""
+"""Writes the body of a function of MIR as Coq, path by path: what several blocks go on to is written after each of
+them. A loop is Rust.v's `loop` of what its blocks set. A shared reference is what it refers to, as no type that is
+known has a value that changes behind one. A `&mut` is the place that it borrows."""
 import re
 from collections import namedtuple
 
-from mir_grammar import Function, Unknown, close, split, within
-from mir_std import CLOSED, EQUAL, FED, GENERIC, ORDERS, STD
+from mir_grammar import Function, Unknown, split, within
+from mir_std import METHODS, STD
 from mir_types import BITS, TEXTS, arguments, of_call, referred, strip
 
-Con = namedtuple("Con", "name args")  # a constructor of values; "tuple", "branching" and a closure aren't Coq's
+Con = namedtuple("Con", "name args")  # a constructor of values; a tuple has no name, and a closure's isn't Coq's
 Mut = namedtuple("Mut", "cell path")  # a mutable borrow
-Slice = namedtuple("Slice", "cell path low high")  # one of a range of bytes
-Checked = namedtuple("Checked", "code")  # a result and whether it overflows
 Tag = namedtuple("Tag", "value place")  # a discriminant
 BITWISE = {"BitAnd": "N.land", "BitOr": "N.lor", "BitXor": "N.lxor"}
 COMPARE = {"Eq": "({0} == {1})", "Ne": "(negb ({0} == {1}))", "Lt": "({0} <? {1})", "Le": "({0} <=? {1})",
@@ -35,114 +31,25 @@ def after(type, step):
     return step[2] if step[0] == "." else referred(type) if step[0] == "*" else item(type)
 
 
-def without_generics(path):
-    """The path of a function of std without arguments of generics."""
-    while m := re.search(r"::<(?!impl )", path):
-        path = path[:m.start()] + path[close(path, m.end() - 1) + 1:]
-    return path
-
-
 class Body:
-    generic, std, closed = GENERIC, STD, CLOSED
+    std = STD
 
     def __init__(self, crate, function, pure):
         self.crate, self.types, self.f, self.pure = crate, crate.types, function, pure
-        self.blocks, self.fresh, self.loops, self.before = function.blocks(), 0, [], []
+        self.blocks, self.fresh, self.before, self.on_path, self.loop = function.blocks(), 0, [], [], None
         self.cells = [f"*{n}" for n, type in function.parameters if type.startswith("&mut ")]
-        self.flow()
-        self.live_at()
 
     def new(self, base):
         self.fresh += 1
         return f"{base}'{self.fresh}"
 
-    # ---- what follows what
-    def successors(self, b):
-        end = self.blocks[b][1]
-        if end[0] == "switch":
-            return list(dict.fromkeys(it for it in end[2].values() if not self.is_dead(it)))
-        return [end[-1]] if end[0] in ("goto", "assert", "call") else []
-
-    def is_dead(self, b):
-        return self.blocks[b] == ([], ("unreachable",))
-
-    def flow(self):
-        order, seen = [], set()
-
-        def visit(b):
-            seen.add(b)
-            for it in self.successors(b):
-                if it not in seen:
-                    visit(it)
-            order.append(b)
-        visit(0)
-        self.rank = {b: i for i, b in enumerate(reversed(order))}
-        before = {b: [a for a in self.rank if b in self.successors(a)] for b in self.rank}
-        dominators, changed = {0: {0}}, True
-        while changed:
-            changed = False
-            for b in sorted(self.rank, key=self.rank.get)[1:]:
-                new = set.intersection(*[dominators[a] for a in before[b] if a in dominators]) | {b}
-                changed, dominators[b] = changed or dominators.get(b) != new, new
-        self.dominators = dominators
-        self.parent = {b: max(dominators[b] - {b}, key=self.rank.get) for b in self.rank if b}
-        self.heads = {b for a in self.rank for b in self.successors(a) if b in dominators[a]}
-        if any(self.rank[b] <= self.rank[a] and b not in dominators[a] for b in self.rank for a in before[b]):
-            raise Unknown("a loop with two beginnings")
-        self.merges = {b for b in self.rank if sum(b not in dominators[a] for a in before[b]) > 1}
-
-    def live_at(self):
-        """Which locals are live at each block, which it writes, and which are borrowed mutably."""
-        used, self.writes, self.borrowed = {}, {}, set()
-
-        def reads(it, found):
-            """The locals of the places in an expression."""
-            if isinstance(it, tuple) and len(it) == 2 and isinstance(it[0], int) and isinstance(it[1], list):
-                found |= {it[0]} | {step[1] for step in it[1] if step[0] == "[]"}
-            elif isinstance(it, (tuple, list)):
-                for part in it:
-                    reads(part, found)
-            return found
-        for b in self.rank:
-            statements, end = self.blocks[b]
-            if end[0] == "call":
-                statements = [*statements, (end[1], end[3])]
-            used[b], killed, written = set(), set(), set()
-            for to, value in statements:
-                used[b] |= reads([value, to] if to[1] else value, set()) - killed
-                killed |= set() if to[1] else {to[0]}
-                written |= set() if ("*",) in to[1] else {to[0]}
-                if value[:1] == ("mut",) and ("*",) not in value[1][1]:
-                    self.borrowed.add(value[1][0])
-            if end[0] in ("switch", "assert"):
-                used[b] |= reads(end[1:], set()) - killed
-            used[b] |= {0} - killed if end[0] == "return" else set()
-            self.writes[b] = written, killed
-        self.live, changed = {b: set() for b in self.rank}, True
-        while changed:
-            changed = False
-            for b in sorted(self.rank, key=self.rank.get, reverse=True):
-                new = used[b] | set().union(*[self.live[it] for it in self.successors(b)]) - self.writes[b][1]
-                changed, self.live[b] = changed or new != self.live[b], new
-
-    def is_mutable(self, local):
-        return self.f.types[local].startswith("&mut ")
-
-    def varying(self, b, among, env):
-        """The locals and cells that are live at b and that the blocks `among` may change; and all that these change, of
-        which the others aren't known at b."""
-        changed = set().union(*[self.writes[it][0] for it in among]) | self.borrowed
-        live = self.live[b] | (self.borrowed if any(map(self.is_mutable, self.live[b])) else set())
-        names = [n for n in sorted(live & changed) if not self.is_mutable(n)]
-        return [n for n in names if n in env or n in self.live[b]] + self.cells, changed
-
     # ---- values
     def code(self, value):
         if isinstance(value, str):
             return value
-        if isinstance(value, Con) and value.name == "tuple":
+        if isinstance(value, Con) and not value.name:
             return "(" + ", ".join(map(self.code, value.args)) + ")" if value.args else "tt"
-        if isinstance(value, Con) and value.name not in ("branching", "branch") and value.name[0] != "{":
+        if isinstance(value, Con) and value.name[0] != "{":
             return f"({value.name} {' '.join(map(self.code, value.args))})" if value.args else value.name
         if isinstance(value, Tag):
             cases = self.cases(self.type_of(("copy", value.place)))
@@ -178,7 +85,7 @@ class Body:
             code, items = self.code(value), []
             for _ in split(plain[1:-1])[1:]:
                 code, items = f"(fst {code})", [f"(snd {code})", *items]
-            return Con("tuple", [code, *items])
+            return Con("", [code, *items])
         title = self.types.head(plain)
         if title not in self.types.fields:
             raise Unknown(f"the parts of {type}")
@@ -186,9 +93,10 @@ class Body:
 
     def step(self, value, step, type, env):
         """A projection of a value of this type."""
-        if step[0] in ("*", "as"):
-            if step[0] == "as" and not (isinstance(value, Con) and (
-                    value.name == "branch" or value.name.split("__")[-1] == step[1])):
+        if step[0] == "*":
+            return value
+        if step[0] == "as":
+            if not isinstance(value, Con) or value.name.split("__")[-1] != step[1]:
                 raise Unknown(f"a part of a {step[1]} that isn't known")
             return value
         if step[0] == ".":
@@ -198,9 +106,9 @@ class Body:
             if step[2] in BITS and title in self.types.fields:
                 self.types.numbers[title, self.types.fields[title][step[1]]] = step[2]
             return self.parts(value, type).args[step[1]]
+        if step[0] == "slice" or isinstance(value, Mut):
+            raise Unknown("an item of a borrow")
         index = str(step[1]) if step[0] == "[c]" else self.code(env[step[1]])
-        if isinstance(value, (Mut, Slice)):
-            raise Unknown("an index of a borrow")
         return self.emit(f"slice_get {self.code(value)} {index}", "x")
 
     def root(self, place, env):
@@ -236,12 +144,10 @@ class Body:
         return self.at(value.cell, value.path, env) if isinstance(value, Mut) else value
 
     def assign(self, place, new, env):
-        if ("*",) in self.root(place, env)[1]:
+        cell, path = self.root(place, env)
+        if ("*",) in path:
             raise Unknown("an assignment through a pointer")
-        self.set(place, new, env)
-
-    def set(self, place, new, env):
-        self.store(*self.root(place, env), new, env)
+        self.store(cell, path, new, env)
 
     def store(self, cell, path, new, env):
         env[cell] = self.update(env.get(cell), self.type_at(cell), list(path), new, env)
@@ -258,6 +164,8 @@ class Body:
                               for i, old in enumerate(args)])
         if it[0] == "[]" and not rest:
             return self.emit(f"set_at {self.code(value)} {self.code(env[it[1]])} {self.code(new)}", "xs")
+        if it[0] == "slice" and not rest:
+            return self.emit(f"copy_into {self.code(value)} {it[1]} {it[2]} {self.code(new)}", "xs")
         raise Unknown(f"an assignment to a part of {type}")
 
     def type_of(self, operand):
@@ -287,22 +195,15 @@ class Body:
             return self.aggregate(what, [self.operand(part, env) for part in it[2]])
         if what == "std::fmt::Error":
             return "tt"
-        if m := re.search(r"::(\w+)(?:::<H>)?::promoted\[(\d+)\]$", what):
-            return self.promoted(m[1], m[2])
-        if what in self.crate.constants:
-            return self.inline(self.crate.constants[what])
-        return self.aggregate(what, [])
-
-    def inline(self, constant):
+        constant = self.crate.constants.get(what)
+        if m := re.search(r"::(\w+)(?:::<H>)?::promoted\[(\d+)\]$", what):  # which rustc took out of this function
+            if not self.f.path.endswith("::" + m[1]):
+                raise Unknown(f"the constant of {m[1]}")
+            constant = self.f.promoted[m[2]]
+        if constant is None:
+            return self.aggregate(what, [])
         is_body = isinstance(constant, Function)
         return self.crate.Body(self.crate, constant, True).whole() if is_body else self.operand(constant, {})
-
-    def promoted(self, name, number):
-        """A constant that rustc took out of this function."""
-        it = self.f.promoted.get(number)
-        if it is None or not self.f.path.endswith("::" + name):
-            raise Unknown(f"the constant of {name}")
-        return self.inline(it)
 
     def aggregate(self, path, args, names=None):
         if m := re.match(r"std::option::Option(?:::<.*>)?::(None|Some)$", path):
@@ -312,7 +213,7 @@ class Body:
         if re.match(r"std::borrow::Cow(?:::<.*>)?::(Owned|Borrowed)$", path):
             return args[0]
         if m := re.match(r"std::ops::Range(To|From)?(?:::)?<usize>$", path):
-            return args[0] if m[1] else Con("tuple", args)
+            return args[0] if m[1] else Con("", args)
         owner, _, variant = path.rpartition("::")
         if path in self.types.declared and isinstance(self.types.declared[path], list):
             title = self.types.title(path)
@@ -347,7 +248,7 @@ class Body:
         if kind == "discriminant":
             return Tag(self.get(what, env), what)
         if kind == "tuple":
-            return Con("tuple", [self.operand(part, env) for part in what])
+            return Con("", [self.operand(part, env) for part in what])
         if kind == "array":
             return "[" + "; ".join(self.code(self.operand(part, env)) for part in what) + "]"
         if kind == "repeat":
@@ -377,9 +278,11 @@ class Body:
         if type == "char" and "number" not in (left[0], right[0]):
             raise Unknown("a comparison of two characters, of which only ASCII ones are told apart")
         if name in COMPARE and (type in BITS or type == "char" or type == "isize" and name in ("Eq", "Ne")):
+            if name == "Eq" and x.isdigit() and y.isdigit():
+                return str(int(x) == int(y)).lower()
             return COMPARE[name].format(x, y)
-        if name.endswith("WithOverflow") and type in BITS:
-            return Checked(f"{name[:3].lower()}_in {BITS[type]} {x} {y}")
+        if name.endswith("WithOverflow") and type in BITS:  # what overflows is none, as rustc's assertion follows
+            return Con("", [self.emit(f"{name[:3].lower()}_in {BITS[type]} {x} {y}", "n"), "false"])
         if name in ("Div", "Rem") and type in BITS and y.isdigit() and int(y):
             return f"({x} {'/' if name == 'Div' else 'mod'} {y})"
         if name == "Shr" and self.type_of(left) in BITS:
@@ -397,152 +300,99 @@ class Body:
         if (it := self.crate.find(key, types)) and it.text:
             if it.result != to:
                 raise Unknown(f"the call of {path}, which returns no {it.result}")
-            return self.own(it, values, types, env)
-        if trait == "std::Into" and owner.startswith("impl Into<"):
-            return values[0]  # the parameter is what this returns
-        if trait == "std::Hash" and name == "hash" and types[1] in ("&mut H", "&mut __H"):
-            return self.hashed(strip(owner), values, types, env)
-        if trait == "std::Clone" and owner.startswith("std::option::Option<"):
-            it = self.crate.find((trait, *arguments(owner), name))
-            return self.emit(f"option_clone ({self.crate.write(it)} fuel) {self.code(self.read(values[0], env))}")
-        if trait == "std::Ord" and name == "cmp":
-            return self.emit(self.compared(strip(owner), *[self.code(self.read(it, env)) for it in values]))
-        plain = without_generics(path)
-        if plain == "std::mem::discriminant":
+            return self.own(it, values, env)
+        is_borrow = isinstance(values[0], Mut)
+        if path.startswith("std::mem::discriminant::<"):
             return self.code(Tag(values[0], operands[0][1]))
-        if form := self.generic.get(plain) or self.std.get(re.sub(r"^<\[u8; \d+\]", "<[u8]", path)):
-            code = form.format(*[self.code(self.read(it, env)) for it in values])
-            # A number is an ASCII character.
-            if plain.endswith(("::split_once", "::split")) and operands[1][0] != "number":
-                raise Unknown("a split at a character that isn't known")
-            return self.emit(code[2:]) if code[0] == "?" else code
-        if plain in self.closed:
-            code = self.closed[plain].format(self.code(self.read(values[0], env)), self.closure(values[1]))
-            if isinstance(values[0], Mut):
-                env.pop(values[0].cell)  # what is left of the iterator isn't known
-            return code
-        if trait == "std::PartialEq" and name in ("eq", "ne"):
-            return self.equality(path, owner, name, types, values, env)
-        if trait == "std::ToString":
-            shown = self.crate.find(("std::Display", strip(owner), "fmt"))
-            if shown:
-                return self.emit(f"displayed ({self.crate.write(shown)} fuel {self.code(values[0])} (formatter_of []))")
-        if trait == "std::Try" and name == "branch":
-            return Con("branching", [values[0]])
-        if trait == "std::FromResidual" and self.same_residual(owner, path):
-            return values[0]
-        if plain == "std::fmt::Formatter::write_str":
-            name = self.named(f"write_str {self.code(self.read(values[0], env))} {self.code(values[1])}", "it")
-            self.store(*values[0], f"(snd {name})", env)
-            return f"(fst {name})"
-        if path == "<[u8] as std::ops::IndexMut<std::ops::Range<usize>>>::index_mut" and isinstance(values[0], Mut):
+        if path == "<[u8] as std::ops::IndexMut<std::ops::Range<usize>>>::index_mut" and is_borrow:
             low, high = map(self.code, self.parts(values[1], types[1]).args)
             self.emit(f"between {self.code(self.read(values[0], env))} {low} {high}")
-            return Slice(*values[0], low, high)
-        if plain == "std::slice::<impl [u8]>::copy_from_slice" and isinstance(values[0], Slice):
-            cell, at, low, high = values[0]
-            code = f"copy_into {self.code(self.at(cell, at, env))} {low} {high} {self.code(values[1])}"
-            self.store(cell, at, self.emit(code, "xs"), env)
+            return Mut(values[0].cell, (*values[0].path, ("slice", low, high)))
+        if path == "std::slice::<impl [u8]>::copy_from_slice" and is_borrow and values[0].path[-1:][0][0] == "slice":
+            self.store(*values[0], self.code(values[1]), env)
             return "tt"
+        codes = [self.closure(it) if isinstance(it, Con) and it.name[:1] == "{" else self.code(self.read(it, env))
+                 for it in values]
+        if any(type == "char" and it[0] != "number" for it, type in zip(operands, types)):  # a number is an ASCII one
+            raise Unknown("a call with a character that isn't known")
+        if form := next((code for pattern, code in self.std.items() if re.fullmatch(pattern, path)), None):
+            return self.changed(form.format(*codes), values, types, env)
+        if trait == "std::ToString":
+            return self.emit(f"displayed ({self.method('std::Display', 'fmt', owner)} {codes[0]} (formatter_of []))")
+        if trait in ("std::Try", "std::FromResidual"):
+            residual = re.search(r" as std::ops::FromResidual<(.*)>>::from_residual$", path)
+            if residual and arguments(owner)[1:] != arguments(residual[1])[1:]:
+                raise Unknown(f"the call of {path}, which converts an error")
+            return f"({self.types.head(owner).lower()}_{name} {codes[0]})"
+        other = re.search(r" as std::cmp::PartialEq<(.*)>>::", path)
+        if other and strip(other[1]) != strip(owner) and not {strip(owner), strip(other[1])} <= {*TEXTS}:
+            raise Unknown(f"the equality of {owner} and {other[1]}")
+        if (trait, name) == ("std::PartialEq", "ne"):
+            return f"(negb {self.std_method(trait, 'eq', owner, codes, values, types, env)})"
+        if (trait, name) in METHODS and (name != "hash" or types[1] in ("&mut H", "&mut __H")):
+            return self.std_method(trait, name, owner, codes, values, types, env)
         raise Unknown(f"the call of {path}")
 
-    def hashed(self, type, values, types, env):
-        """The crate's hash, or std's."""
-        if it := self.crate.find(("std::Hash", type, "hash")):
-            return self.own(it, values, types, env)
-        fed = self.emit(self.fed(type, *[self.code(self.read(it, env)) for it in values]), "fed")
-        self.store(*values[1], fed, env)
-        return "tt"
+    def changed(self, code, values, types, env):
+        """The value of a call: in what Coq's function returns, it is before what each `&mut` refers to then."""
+        borrows = [value for value, type in zip(values, types) if type.startswith("&mut ")]
+        if code[0] == "!":  # what is left of an iterator isn't known
+            for value in borrows:
+                env.pop(value.cell)
+            return code[2:]
+        if code[0] == "?":  # an option
+            code = self.emit(code[2:])
+        elif borrows:
+            code = self.named(code, "it")
+        for value in reversed(borrows):
+            self.store(*value, f"(snd {code})", env)
+            code = f"(fst {code})"
+        return code
 
-    def fed(self, type, value, fed):
-        """What a hasher is fed by the crate's hash, or by std's of a number, a string or what has cases: an option."""
-        if it := self.crate.find(("std::Hash", strip(type), "hash")):
-            return f"(option_map snd ({self.crate.write(it)} fuel {value} {fed}))"
-        if type in FED:
-            return f"(Some (feed by_{type} {value if type == 'str' else f'[{value}]'} {fed}))"
+    def std_method(self, trait, name, type, codes, values, types, env):
+        """A call of a method that std has for references, numbers, strings, tuples and what has cases."""
+        leaf = METHODS[trait, name].get(strip(type))
+        code = f"({leaf} {' '.join(codes)})" if leaf else f"? {self.method(trait, name, type)} {' '.join(codes)}"
+        return self.changed(code, values, types, env)
+
+    def method(self, trait, name, type):
+        """A trait's method as a function of Coq: the crate's, or std's, which is by those of the type's parts."""
+        type = strip(type)
+        if it := self.crate.find((trait, type, name), [f"&{type}"] * 2 if name == "eq" else None):
+            return f"({self.crate.write(it)} fuel)"
+        if leaf := METHODS.get((trait, name), {}).get(type):
+            return f"(total {leaf})"
         if m := re.fullmatch(r"std::mem::Discriminant<(.*)>", type):  # a number, of its type in the own hash
-            own = self.crate.find(("std::Hash", m[1], "hash"))
-            return self.fed(own.types[int(re.search(r"_(\d+) = discriminant\(\(\*_1\)\)", own.text)[1])], value, fed)
+            own = self.crate.find((trait, m[1], name))
+            local = re.search(r"_(\d+) = discriminant\(\(\*_1\)\)", own.text)[1]
+            return self.method(trait, name, own.types[int(local)])
+        if type[0] == "(" and name == "cmp":
+            first, *others = [self.method(trait, name, it) for it in split(type[1:-1])]
+            for it in others:
+                first = f"(pair_cmp {first} {it})"
+            return first
         if not re.match(r"std::(option::Option|result::Result)<", type):
-            raise Unknown(f"the hash of {type}")
-        first, second = (f"(feed by_isize [{i}] {fed})" for i in range(2))
-        of, *other = arguments(type)
-        if not other:
-            return f"(match {value} with None => Some {first} | Some it => {self.fed(of, 'it', second)} end)"
-        return f"(match {value} with Result__Ok it => {self.fed(of, 'it', first)} " \
-               f"| Result__Err it => {self.fed(*other, 'it', second)} end)"
+            raise Unknown(f"{name} of {type}")
+        of = " ".join(self.method(trait, name, it) for it in arguments(type))
+        return f"({self.types.head(type).lower()}_{name} {of})"
 
-    def compared(self, type, x, y):
-        """The crate's order, or std's: an option, which is none for a panic."""
-        if it := self.crate.find(("std::Ord", strip(type), "cmp")):
-            return f"({self.crate.write(it)} fuel {x} {y})"
-        if of := ORDERS.get(strip(type)):
-            return f"(Some ({of} {x} {y}))"
-        if type.startswith("std::option::Option<"):
-            return f"(option_cmp (λ x y, {self.compared(arguments(type)[0], 'x', 'y')}) {x} {y})"
-        if not type.startswith("("):
-            raise Unknown(f"the order of {type}")
-        parts = [self.compared(*it) for it in zip(split(type[1:-1]), *[self.parts(it, type).args for it in (x, y)])]
-        return f"(in_turn [{'; '.join(parts)}])"
-
-    def own(self, it, values, types, env):
+    def own(self, it, values, env):
         """A call of a function of the crate."""
-        if any(is_into and of != to and not {strip(of), strip(to)} <= {*TEXTS}
-               for is_into, of, (_, to) in zip(it.into, types, it.parameters)):
-            raise Unknown(f"a conversion for {it.path}")
-        title = self.crate.write(it, self.pure)
-        fuel = "" if self.pure else " fuel"
-        code = f"{title}{fuel}{''.join(' ' + self.code(self.read(value, env)) for value in values)}"
-        if self.pure:
-            return f"({code})"
-        result = self.emit(code)
-        for (n, _), value in reversed([*zip(it.parameters, values)]):
-            if n in it.mutable:
-                self.store(*value, f"(snd {result})", env)
-                result = f"(fst {result})"
-        return result
-
-    def same_residual(self, owner, path):
-        """Whether `?` passes an error of the same type on."""
-        of = arguments(path[:path.rindex("::")][:-1].partition(" as ")[2])[0]
-        return owner.startswith("std::option::Option<") or arguments(owner)[1] == arguments(of)[1]
+        code = f"{self.crate.write(it, self.pure)}{'' if self.pure else ' fuel'}" + "".join(
+            " " + self.code(self.read(value, env)) for value in values)
+        return f"({code})" if self.pure else self.changed(f"? {code}", values, [of for _, of in it.parameters], env)
 
     def closure(self, value):
         """A closure that captures nothing, as a function of Coq."""
         it = self.crate.closure(value.name)
         if len(it.parameters) != 1:
             raise Unknown(f"the arguments of {value.name}")
-        name = self.new("given")  # which is no name in the body
-        return f"(λ {name}, {self.crate.Body(self.crate, it, True).block(0, {it.parameters[0][0]: name}, {})})"
-
-    def equality(self, path, owner, name, types, values, env):
-        """`==`, or `!=` by `==`: a type's own, or std's of the types' in it."""
-        other = re.search(r"PartialEq(?:<(.*)>)?>::(?:eq|ne)$", path)[1] or owner
-        while owner[0] == other[0] == "&":  # std's of references
-            owner, other = owner[1:], other[1:]
-        it = self.crate.find(("std::PartialEq", owner, "eq"), [f"&{owner}", f"&{other}"])
-        if not it and owner != other and not {strip(owner), strip(other)} <= {*TEXTS}:
-            raise Unknown(f"the equality of {owner} and {other}")
-        if it and not self.pure:
-            code = self.emit(f"{self.crate.write(it)} fuel {self.code(values[0])} {self.code(values[1])}")
-        else:
-            code = f"({self.equal(owner)} {self.code(values[0])} {self.code(values[1])})"
-        return code if name == "eq" else f"(negb {code})"
-
-    def equal(self, type):
-        type = strip(type)
-        if type in EQUAL:
-            return EQUAL[type]
-        if m := re.match(r"std::(option::Option|result::Result)<", type):
-            return f"({m[1].split('::')[1].lower()}_eqb {' '.join(map(self.equal, arguments(type)))})"
-        it = self.crate.find(("std::PartialEq", type, "eq"), [f"&{type}"] * 2)
-        if not it:
-            raise Unknown(f"the equality of {type}")
-        return self.crate.write(it, True)
+        name, body = self.new("given"), self.crate.Body(self.crate, it, True)  # which is no name in the body
+        return f"(λ {name}, {body.go(0, {**body.begun(), it.parameters[0][0]: name})})"
 
     # ---- blocks
     def whole(self):
-        return self.block(0, self.begun(), {})
+        return self.go(0, self.begun())
 
     def begun(self):
         """The variables at the beginning."""
@@ -558,185 +408,123 @@ class Body:
 
     def none(self):
         if self.pure:
-            raise Unknown("a possible panic in a constant, a closure or an equality")
+            raise Unknown("a possible panic in a constant or a closure")
         return "None"
 
-    def unreachable(self):
-        return "false" if self.pure and self.f.result == "bool" else self.none()
+    def returned(self, code):
+        """The answer of the function, or of the loop that it ends with."""
+        return code if self.pure else f"Some (Return {code})" if self.loop else f"Some {code}"
 
-    def returned(self, code, level):
-        """An answer of the loop of this level, or of the function."""
-        for _ in self.loops[level:]:
-            code = f"(Return {code})"
-        return code if self.pure else f"Some {code}"
-
-    def go(self, b, env, joins):
-        """A jump to a block."""
-        if b not in joins:
-            return self.block(b, env, joins)
-        title, names, level = joins[b]
-        if missing := [n for n in names if n not in env]:
-            raise Unknown(f"_{missing[0]}, which isn't set wherever it is read")
-        args = [self.code(env[n]) for n in names]
-        if title is None:
-            return self.returned(f"(Next {self.tuple(args)})", level)
-        code = f"{title} {' '.join(args or ['tt'])}"
-        for _ in self.loops[level:]:
-            code = f"match {code} with Some it => Some (Return it) | None => None end"
+    def go(self, b, env):
+        """The code from a block on; without one it is a panic."""
+        if b is None:
+            return self.none()
+        if self.loop and b == self.loop[0]:
+            return f"Some (Next {self.tuple([self.code(env[n]) for n in self.loop[1]])})"
+        if b in self.on_path:
+            raise Unknown("a loop in another one")
+        self.on_path.append(b)
+        code = self.repeated(b, env) if not self.loop and b in self.reached(b) else self.block(b, dict(env))
+        self.on_path.pop()
         return code
 
     def tuple(self, args):
         return "(" + ", ".join(args) + ")" if len(args) > 1 else args[0] if args else "tt"
 
-    def block(self, b, env, joins):
-        if b in self.heads and b not in joins:
-            return self.loop(b, env, joins)
-        return self.aside(lambda: self.inside(b, dict(env), joins))
+    def reached(self, b):
+        """The blocks that come after one, and are not before."""
+        found, todo = set(), [b]
+        while todo:
+            end = self.blocks[todo.pop()][1]
+            after = end[2].values() if end[0] == "switch" else [end[-1]] if end[0] in ("goto", "assert", "call") else []
+            todo += {*after} - found
+            found |= {*after}
+        return found
 
-    def inside(self, b, env, joins):
-        statements, end = self.blocks[b]
-        for to, value in statements:
+    def repeated(self, b, env):
+        """A loop, of which a block is the first."""
+        self.none()
+        changed = {*self.cells}
+        for it, (statements, end) in self.blocks.items():
+            changed |= {value[1][0] for _, value in statements if value[0] == "mut"}
+            if it in self.reached(b) and b in self.reached(it):
+                changed |= {to[0] for to, _ in statements} | ({end[1][0]} if end[0] == "call" else set())
+        names = [n for n in env if n in changed and not isinstance(env[n], Mut)]
+        inner = {n: it for n, it in env.items() if n not in changed} | {n: self.new(f"v{n}".replace("*", ""))
+                                                                         for n in names}
+        pattern = ("'" if len(names) > 1 else "") + self.tuple([inner[n] for n in names]) if names else "_"
+        start = self.tuple([self.code(env[n]) for n in names])
+        self.loop = b, names
+        body = self.block(b, inner)
+        self.loop = None
+        return f"match loop fuel (λ {pattern},\n{body}) {start} with\n| Some (inr it) => Some it | _ => None end"
+
+    def block(self, b, env):
+        outer, self.before = self.before, []
+        for to, value in self.blocks[b][0]:
             if value[0] == "aggregate" and "::" not in value[1] and value[1] != self.type_of(("copy", to)):
                 raise Unknown(f"the operator {value[1]}")  # whose value has no type of the crate
             self.assign(to, self.rvalue(value, env), env)
-        joined = []
-        children = [it for it in self.merges if self.parent[it] == b and it not in self.heads]
-        for it in sorted(children, key=self.rank.get, reverse=True):  # the last one is outermost
-            among = {y for y in self.rank if b in self.dominators[y] and it not in self.dominators[y]}
-            names, changed = self.varying(it, among, env)
-            inner = {k: v for k, v in env.items() if k not in changed} | {n: self.new(f"v{n}".replace("*", ""))
-                                                                         for n in names}
-            title = self.new("block")
-            binders = "".join(f" ({inner[n]} : {self.types.coq(self.type_at(n))})" for n in names) or " (_ : unit)"
-            code = f"λ{binders},\n{self.block(it, inner, joins)}"
-            joined.append(self.joined(title, code))
-            joins = {**joins, it: (title, names, len(self.loops))}
-        self.before += joined
-        return self.end(end, env, joins)
-
-    def joined(self, title, code):
-        """The code before and after what goes on to a block that several go on to."""
-        return f"let {title} := {code} in\n", ""
-
-    def loop(self, b, env, joins):
-        self.none()
-        among = {it for it in self.rank if b in self.dominators[it] and self.reaches(it, b)}
-        names, changed = self.varying(b, among, env)
-        names = [n for n in names if n in env]
-        inner = {k: v for k, v in env.items() if k not in changed} | {n: self.new(f"v{n}".replace("*", ""))
-                                                                     for n in names}
-        pattern = ("'" if len(names) > 1 else "") + self.tuple([inner[n] for n in names]) if names else "_"
-        start = self.tuple([self.code(env[n]) for n in names])
-        self.loops.append(b)
-        body = self.block(b, inner, {**joins, b: (None, names, len(self.loops))})
-        self.loops.pop()
-        return f"match loop fuel (λ {pattern},\n{body}) {start} with\n| Some (inr it) => " \
-               f"{self.returned('it', 0)} | _ => None end"
-
-    def reaches(self, a, b):
-        seen, todo = set(), [a]
-        while todo:
-            for it in self.successors(todo.pop()):
-                if it == b:
-                    return True
-                if it not in seen and b in self.dominators[it]:
-                    seen.add(it)
-                    todo.append(it)
-        return False
-
-    def end(self, it, env, joins):
-        kind = it[0]
-        if kind == "return":
-            code = "tt" if self.f.result == "()" and 0 not in env else self.code(self.get((0, []), env))
-            for cell in self.cells:
-                code = f"({code}, {self.code(env[cell])})"
-            return self.returned(code, 0)
-        if kind in ("panic", "unreachable"):
-            return self.none() if kind == "panic" else self.unreachable()
-        if kind == "goto":
-            return self.go(it[1], env, joins)
-        if kind == "call":
-            self.assign(it[1], self.called(it[2], it[3], self.type_of(("copy", it[1])), env), env)
-            return self.go(it[4], env, joins)
-        if kind == "assert":
-            return self.check(*it[1:], env, joins)
-        return self.switch(it[1], it[2], env, joins)
-
-    def check(self, expected, operand, to, env, joins):
-        """An assertion of rustc's: of an index, or of a result that doesn't overflow."""
-        self.none()
-        local, steps = operand[1]
-        if isinstance(it := env.get(local), Checked) and steps == [(".", 1, "bool")] and not expected:
-            env[local] = Con("tuple", [self.emit(it.code, "n"), "false"])
-            return self.go(to, env, joins)
-        code = self.code(self.operand(operand, env))
-        if m := re.fullmatch(r"\((\d+) == (\d+)\)", code):
-            if (m[1] == m[2]) == expected:
-                return self.go(to, env, joins)
-        self.before.append((f"if {code} then\n", "\nelse None") if expected else (f"if {code} then None else\n", ""))
-        return self.go(to, env, joins)
-
-    def aside(self, act):
-        """The code of a branch."""
-        outer, self.before = self.before, []
-        code = act()
-        for pre, post in reversed(self.before):
-            code = pre + code + post
+        code = self.end(b, env)
+        for begin, end in reversed(self.before):
+            code = begin + code + end
         self.before = outer
         return code
 
-    def switch(self, operand, cases, env, joins):
-        value, type = self.operand(operand, env), self.type_of(operand)
-        other = cases.get("otherwise")
-        if other is not None and self.is_dead(other):
-            other = None
+    def end(self, b, env):
+        kind, *it = self.blocks[b][1]
+        if kind == "return":
+            code = self.code(self.get((0, []), env))
+            for cell in self.cells:
+                code = f"({code}, {self.code(env[cell])})"
+            return self.returned(code)
+        if kind == "goto":
+            return self.go(it[0], env)
+        if kind == "call":
+            self.assign(it[0], self.called(it[1], it[2], self.type_of(("copy", it[0])), env), env)
+            return self.go(it[3], env)
+        if kind == "assert":  # of rustc's: that an index is within, or a divisor isn't zero
+            return self.test(self.code(self.operand(it[1], env)), *((it[2], None) if it[0] else (None, it[2])), env)
+        return self.switch(*it, env) if kind == "switch" else self.none()
+
+    def test(self, code, yes, no, env):
+        if code in ("true", "false"):
+            return self.go(yes if code == "true" else no, env)
+        return f"if {code} then {self.go(yes, env)}\nelse {self.go(no, env)}"
+
+    def switch(self, operand, targets, env):
+        value, type, other = self.operand(operand, env), self.type_of(operand), targets.get("otherwise")
         if isinstance(value, Tag):
-            return self.match(value, cases, other, env, joins)
-        def branch(b):
-            return self.none() if b is None else self.aside(lambda: self.go(b, dict(env), joins))
+            return self.match(value, targets, other, env)
         code = self.code(value)
         if type == "bool":
-            if code in ("true", "false"):
-                return branch(cases.get(int(code == "true"), other))
-            return f"if {code} then {branch(cases.get(1, other))}\nelse {branch(cases.get(0, other))}"
+            return self.test(code, targets.get(1, other), targets.get(0, other), env)
         if type not in BITS and type != "char":
             raise Unknown(f"a switch of {type}")
-        found = branch(other)
-        for n, b in reversed([it for it in cases.items() if it[0] != "otherwise"]):
-            found = f"if {code} == {within(n, type)} then {branch(b)}\nelse {found}"
+        found = self.go(other, env)
+        for n, b in reversed([it for it in targets.items() if it[0] != "otherwise"]):
+            found = f"if {code} == {within(n, type)} then {self.go(b, env)}\nelse {found}"
         return found
 
-    def match(self, tag, targets, other, env, joins):
-        value, type = tag.value, self.type_of(("copy", tag.place))
-        branching = isinstance(value, Con) and value.name == "branching"
-        if branching:  # of `?`: 0 goes on with the value, 1 returns what has none
-            value, holder = value.args[0], re.match(r"std::ops::ControlFlow<(std::\w+::\w+)<", type)
-            names = ("Some", "None") if holder[1] == "std::option::Option" else ("Result__Ok", "Result__Err")
-            cases = {i: (it, int(it != "None")) for i, it in enumerate(names)}
-        else:
-            cases = self.cases(type)
+    def match(self, tag, targets, other, env):
+        value, cases = tag.value, self.cases(self.type_of(("copy", tag.place)))
+        if isinstance(value, Con):  # it is made here, or was matched before
+            number = next(i for i, (name, _) in cases.items() if name == value.name)
+            return self.go(targets.get(number, other), env)
 
-        def branch(b, known):
-            inner = dict(env)
-            if known is not None and branching:
-                parts = known.args if known.name in ("Some", "Result__Ok") else [known]
-                self.set(tag.place, Con("branch", parts), inner)
-            elif known is not None:
-                again = lambda it: known if it == value else Con(it.name, [again(x) for x in it.args]) \
-                    if isinstance(it, Con) else it  # noqa: E731
-                if isinstance(value, str):  # it is this wherever it is
-                    inner = {n: again(it) for n, it in inner.items()}
-                if self.get(tag.place, env) == value:
-                    self.set(tag.place, known, inner)
-            return self.go(b, inner, joins)
-        if isinstance(value, Con):
-            raise Unknown(f"a case of a {type} that is made here")
-        arms = []
-        for i, (name, count) in cases.items():
-            if i in targets:
-                known = Con(name, [self.new("x") for _ in range(count)])
-                arms.append(f"| {self.code(known)} =>\n{self.aside(lambda: branch(targets[i], known))}")
+        def known(it, made):
+            """A value, as the matched one is what a case has made."""
+            if isinstance(it, Con):
+                return Con(it.name, [known(part, made) for part in it.args])
+            return made if it == value else it
+        arms, (cell, path) = [], self.root(tag.place, env)
+        for number, (name, count) in cases.items():
+            if number in targets:
+                made = Con(name, [self.new("x") for _ in range(count)])
+                inner = {n: known(it, made) for n, it in env.items()}
+                if self.at(cell, path, env) == value:
+                    self.store(cell, path, made, inner)
+                arms.append(f"| {self.code(made)} =>\n{self.go(targets[number], inner)}")
         if len(arms) < len(cases):
-            rest = self.unreachable() if other is None else self.aside(lambda: branch(other, None))
-            arms.append(f"| _ =>\n{rest}")
+            arms.append(f"| _ =>\n{self.go(other, env)}")
         return f"match {self.code(value)} with\n" + "\n".join(arms) + " end"

@@ -46,10 +46,7 @@ def close(text, start=0):
 
 def last_open(text):
     """The index of the bracket that the last character closes."""
-    found = [i for i, depth in depths(text) if not depth and text[i] == "(" and close(text, i) == len(text) - 1]
-    if not found:
-        raise Unknown(f"brackets of {text}")
-    return found[-1]
+    return next(i for i, depth in depths(text) if not depth and text[i] == "(" and close(text, i) == len(text) - 1)
 
 
 def clean(path):
@@ -59,34 +56,21 @@ def clean(path):
 
 
 def place(text):
-    text = text.strip()
-    if m := re.match(r"_(\d+)", text):
-        local, steps, at = int(m[1]), [], m.end()
-    elif text[:1] == "(":
-        at = close(text) + 1
-        inner = text[1:at - 1]
-        if inner[0] == "*":
-            local, steps = place(inner[1:])
-            steps = [*steps, ("*",)]
-        else:
-            end = close(inner) + 1 if inner[0] == "(" else re.match(r"_\d+|", inner).end()
-            local, steps = place(inner[:end])
-            if m := re.fullmatch(r"\.(\d+): (.*)", inner[end:]):
-                steps = [*steps, (".", int(m[1]), clean(m[2]))]
-            elif m := re.fullmatch(r" as (\w+)", inner[end:]):
-                steps = [*steps, ("as", m[1])]
-            else:
-                raise Unknown(f"the place {text}")
+    at = close(text) + 1 if text[0] == "(" else re.match(r"_\d+", text).end()
+    inner = text[1:at - 1]
+    if text[0] == "_":
+        local, steps = int(text[1:at]), []
+    elif inner[0] == "*":
+        local, steps = place(inner[1:])
+        steps = [*steps, ("*",)]
     else:
-        raise Unknown(f"the place {text}")
-    while at < len(text):
-        if m := re.match(r"\[_(\d+)\]", text[at:]):
-            steps = [*steps, ("[]", int(m[1]))]
-        elif m := re.match(r"\[(\d+) of \d+\]", text[at:]):
-            steps = [*steps, ("[c]", int(m[1]))]
-        else:
-            raise Unknown(f"the place {text}")
-        at += m.end()
+        end = close(inner) + 1 if inner[0] == "(" else re.match(r"_\d+", inner).end()
+        m = re.fullmatch(r"\.(\d+): (.*)| as (\w+)", inner[end:])
+        local, steps = place(inner[:end])
+        steps = [*steps, ("as", m[3]) if m[3] else (".", int(m[1]), clean(m[2]))]
+    if at < len(text):
+        m = re.fullmatch(r"\[_(\d+)\]|\[(\d+) of \d+\]", text[at:])
+        steps = [*steps, ("[]", int(m[1])) if m[1] else ("[c]", int(m[2]))]
     return local, steps
 
 
@@ -287,7 +271,7 @@ KINDS = "Const Enum ExternCrate Fn Impl Macro Mod Static Struct Trait TyAlias Ty
 
 def read_hir(text):
     """The fields of each struct, the variants of each enum with their number of fields, and the impls."""
-    types, impls, aliases = {}, [], []
+    types, impls, aliases, paths = {}, [], [], set()
     taken = {*BINARY, "Not", "PtrMetadata", *re.findall(r" name: Plain\(\n +(\w+)#", text)}  # of generics
     for block in re.split(r"^(?=DefId\(0:(?!0 ))", text, flags=re.M)[1:]:  # without the crate's root
         m, kind = re.match(DEFINED + " => OwnerNodes", block), re.search(r"^ {16}kind: (\w+)", block, re.M)
@@ -297,10 +281,13 @@ def read_hir(text):
         is_type = kind[1] in ("Enum", "Struct")
         if re.match(r"(core|alloc|std)::", path) or path in taken or is_type and path.islower():
             raise Unknown(f"{path}, whose name could be another one's")
-        if "#" in re.sub(r"\{\w+#\d+\}", "", path) or path in types:
+        if "#" in re.sub(r"\{\w+#\d+\}", "", path) or path in paths:
             raise Unknown(f"{path}, which isn't the only one of its path")
+        paths.add(path)
         if re.search(PATTERN, block):
             raise Unknown(f"a constant in a pattern of {path}")
+        if " Provided(" in block:
+            raise Unknown(f"a function that the trait {path} has for all types")
         if kind[1] == "Use" and (to := re.search(r" Single\(\n +(\w+)#", block)) and to[1] != "_":
             if {*re.findall(r" DefId\(\S+ ~ \S+::(\w+)\),", block.partition(" segments: ")[0])} - {to[1]}:
                 raise Unknown(f"an import under another name, {to[1]}")

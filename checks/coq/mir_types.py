@@ -11,6 +11,7 @@ PLAIN = {"bool": "bool", "char": "ℕ", "()": "unit", "std::fmt::Error": "unit",
          "H": "Fed", "__H": "Fed",  # a hasher, whatever it makes of what it is fed
          **dict.fromkeys(BITS, "ℕ"), **dict.fromkeys(TEXTS, "(list ℕ)")}
 STD = {"option": [("None", 0), ("Some", 1)], "Result": [("Result__Ok", 1), ("Result__Err", 1)],
+       "ControlFlow": [("ControlFlow__Continue", 1), ("ControlFlow__Break", 1)],
        "comparison": [("Eq", 0), ("Gt", 0), ("Lt", 0)]}
 WRAPPERS = r"&(?!mut )|\*const |std::boxed::Box<(.*)>$|std::borrow::Cow<(.*)>$"
 
@@ -76,8 +77,8 @@ class Types:
     def head(self, type):
         """The name in Coq of a type with constructors or fields."""
         type = referred(type)
-        if m := re.match(r"std::(option::Option|result::Result)<", type):
-            return "option" if m[1] == "option::Option" else "Result"
+        if m := re.match(r"std::(option::Option|result::Result|ops::ControlFlow)<", type):
+            return "option" if m[1] == "option::Option" else m[1].split("::")[1]
         return PLAIN.get(type) or self.title(type)
 
     def coq(self, type):

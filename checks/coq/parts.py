@@ -4,7 +4,7 @@ import re
 import shutil
 from pathlib import Path
 
-import compiled
+import bridge
 import definitions
 import derived
 import shipped
@@ -23,7 +23,7 @@ for part, (_, proofs) in shipped.CONFIGURATIONS.items():
     PARTS[part] = needed, ["Rust", "Std", "Code", "Configured", *proofs], functools.partial(shipped.write, part=part)
     if part == "rust":
         files = "Mir Bridge Same_mir Compiled Traits Derived Orders Borrowed".split()
-        PARTS["mir"] = (needed + ["rust"], files, compiled.write)
+        PARTS["mir"] = (needed + ["rust"], files, bridge.write)
         PARTS["source"] = (needed + ["rust"], "Keys Source Halves Same".split(), source.write)
 
 

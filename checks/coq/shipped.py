@@ -58,7 +58,7 @@ def read(root, features):
 @functools.cache
 def configurations(root, known):
     """Each configuration's crate and its Coq, of which `known` is read before."""
-    before = "".join(HERE.joinpath(it).read_text(encoding="utf-8") for it in ("Kit.v", "rust/Rust.v"))
+    before = "".join(HERE.joinpath(it).read_text(encoding="utf-8") for it in ("Kit.v", "rust/Rust.v", "rust/Std.v"))
     found = {}
     for name, (features, _) in CONFIGURATIONS.items():
         crate = read(root, features)
@@ -82,7 +82,7 @@ def write(root, folder, part="rust"):
             others |= {*titles(it, "Definition|Fixpoint|Record|Inductive")}
     _, proofs = CONFIGURATIONS[part]
     own = [it for it in written[part] if it not in shared]
-    put(folder, "Code", "Kit Specs Rust", "packages/rust/src", shared)
-    put(folder, "Configured", "Kit Specs Rust Code", f"packages/rust/src as {part} has it", own)
+    put(folder, "Code", "Kit Specs Rust Std", "packages/rust/src", shared)
+    put(folder, "Configured", "Kit Specs Rust Std Code", f"packages/rust/src as {part} has it", own)
     proved = "".join(HERE.joinpath(f"rust/{it}.v").read_text(encoding="utf-8") for it in proofs)
     return dict.fromkeys(re.findall(r"^Theorem (\w+)", proved, re.M))

@@ -80,7 +80,7 @@ def write(root, folder):
         others[f"rt_{it}"] = f"rs_{it}"
     code, problems = translate(crate, known, titles(known), others)
     check(crate, problems, SOURCE_LEFT_OUT)
-    ours = titles(put(folder, "Source", "Kit Specs Rust Keys Code Configured", "crates", code))
+    ours = titles(put(folder, "Source", "Kit Specs Rust Std Keys Code Configured", "crates", code))
     same = {it: REPLACED.get(it[3:], ("{} = {}", "reflexivity")) for it in ours if it in others}
     statements = {it: statement.format(it, others[it]) for it, (statement, _) in same.items()}
     proofs = [f"Lemma same_{it[3:]} : {statements[it]}. Proof. {proof}. Qed." for it, (_, proof) in same.items()]
@@ -92,6 +92,6 @@ def write(root, folder):
         raise Untranslated(f"the proved source has no function {alone[0][3:]}")
     if alone := [it[3:] for it in ours if it not in others and it[3:] not in NOT_SHIPPED]:
         raise Untranslated(f"packages/rust has no function {', '.join(alone)}")
-    put(folder, "Same", "Kit Specs Rust Code Finite Table Configured Source Halves", "crates and packages/rust/src",
+    put(folder, "Same", "Kit Specs Rust Std Code Finite Table Configured Source Halves", "crates and packages/rust/src",
         proofs)
     return {"the_proved_source_is_shipped": None}

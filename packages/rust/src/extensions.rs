@@ -62,10 +62,7 @@ pub trait TripleExt: Sealed + Sized {
     /// assert!(!triple!("armv7-nintendo-horizon-newlib").comes_back());
     /// ```
     #[must_use]
-    #[inline]
-    fn comes_back(&self) -> bool {
-        self.as_triple_ref().comes_back()
-    }
+    fn comes_back(&self) -> bool;
 
     /// The first exception that applies to the triple. `None` if it comes back. Nothing is allocated.
     ///
@@ -79,10 +76,7 @@ pub trait TripleExt: Sealed + Sized {
     /// assert_eq!(exception, Some(RoundTripException::HidesNewlib));
     /// ```
     #[must_use]
-    #[inline]
-    fn round_trip_exception(&self) -> Option<RoundTripException> {
-        self.as_triple_ref().round_trip_exception()
-    }
+    fn round_trip_exception(&self) -> Option<RoundTripException>;
 
     /// The canonical form of the triple, which is what its printed string parses as. It comes back, and two canonical
     /// triples with the same string are the same, so the string serves as a key. A triple that
@@ -119,10 +113,7 @@ pub trait TripleExt: Sealed + Sized {
     /// assert!(one.settles_as(&other));
     /// ```
     #[must_use]
-    #[inline]
-    fn settles_as<'t>(&self, other: impl Into<TripleRef<'t>>) -> bool {
-        self.as_triple_ref().settles_as(other)
-    }
+    fn settles_as<'t>(&self, other: impl Into<TripleRef<'t>>) -> bool;
 
     /// The triple as upstream prints it: `Display` of what is returned writes that. It differs from what `Display` of
     /// the triple writes only if environment and format are both unknown and another format is implied. Nothing is
@@ -138,10 +129,7 @@ pub trait TripleExt: Sealed + Sized {
     /// assert_eq!(triple.upstream().to_string(), "x86_64-unknown-linux-unknown");
     /// ```
     #[must_use]
-    #[inline]
-    fn upstream(&self) -> Upstream<'_> {
-        self.as_triple_ref().upstream()
-    }
+    fn upstream(&self) -> Upstream<'_>;
 }
 
 impl Sealed for Triple {}
@@ -162,6 +150,16 @@ impl TripleExt for Triple {
         self.as_triple_ref()
     }
 
+    #[inline]
+    fn comes_back(&self) -> bool {
+        self.as_triple_ref().comes_back()
+    }
+
+    #[inline]
+    fn round_trip_exception(&self) -> Option<RoundTripException> {
+        self.as_triple_ref().round_trip_exception()
+    }
+
     #[cfg(feature = "alloc")]
     #[inline]
     fn settle(self) -> Result<Self, NotPlain> {
@@ -170,6 +168,16 @@ impl TripleExt for Triple {
         } else {
             Err(NotPlain(self))
         }
+    }
+
+    #[inline]
+    fn settles_as<'t>(&self, other: impl Into<TripleRef<'t>>) -> bool {
+        self.as_triple_ref().settles_as(other)
+    }
+
+    #[inline]
+    fn upstream(&self) -> Upstream<'_> {
+        self.as_triple_ref().upstream()
     }
 }
 
