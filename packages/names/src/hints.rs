@@ -8,8 +8,8 @@ use crate::evidence::{only_machine, says_nothing};
 use crate::levels::{is_at_most, level_of};
 use crate::shape::unversioned;
 use crate::suggestions::{
-    edits_between, fit_alone, is_near_other, machine_of, meant, vendor_suggestion, visible, Form, Machine, Place,
-    Suggest as _, Suggestion,
+    difference, edits_between, fit_alone, is_near_other, machine_of, meant, vendor_suggestion, visible, Form, Machine,
+    Place, Suggest as _, Suggestion,
 };
 use crate::table::SYSTEMS;
 use crate::text::is_whole;
@@ -256,7 +256,7 @@ impl<'a> Hints<'a> {
                 let sense = dialect.sense(row.0).ok();
                 sense.map(|it| (level_of((it.triple.architecture, it.level)), it.triple.operating_system))
             },
-            |row| allows(row) && keeps_systems(name, row.0) && keeps_numbers(row.0),
+            |row| allows(row) && keeps_systems(name, row.0) && keeps_numbers(row.0) && keeps_words(name, row.0),
         )
     }
 
@@ -439,6 +439,17 @@ impl<'a> Meant<'a> {
             && triple.map_or(false, |it| !it.vendor.is_custom())
             && is_whole(room.as_str())
     }
+}
+
+/// Whether no short word is another one, of as many, if no letters are swapped: `linux/wasm` isn't `linux/arm`.
+fn keeps_words(name: &str, other: &str) -> bool {
+    let words = |text| str::split(text, |it: char| !it.is_ascii_alphanumeric());
+    let is_near =
+        |(word, other): (&str, &str)| word.len() > 5 || matches!(edits_between(word.as_bytes(), other), Some(0 | 1));
+    let (_, own, of_other) = difference(name.as_bytes(), other.as_bytes());
+    own.len() < 4 && own.iter().rev().eq(of_other)
+        || words(name).count() != words(other).count()
+        || words(name).zip(words(other)).all(is_near)
 }
 
 /// Whether each word of a name for a system that no triple has, such as `lynx`, is one of another name too.

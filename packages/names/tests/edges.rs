@@ -351,7 +351,8 @@ const SUGGESTED: &str = "\
 -=go aux/ppc64, go aux7/ppc64, rust x86_64-unknown-linux-gnux, go linux/amr64, node linux-adm64, gnu linux-ppc64--gnu, \
     debian powerpcel, zig x86-lynx, apk arm-vx7, debian arm-elf, node x86-64, gnu x86-64, rust mipsel-sony-psx, \
     debian powerpcle, gnu arceb-linux-gnu, node linux-x32, debian armv6, rust aarch64-apple-ios-iso, node openuse-x64, \
-    conda os-arm64, gnu armb-linux-gnueabi, zig arme-linux-gnueabi, debian spirv64
+    conda os-arm64, gnu armb-linux-gnueabi, zig arme-linux-gnueabi, debian spirv64, \
+    go linux/wasm, node linux-rv32, gnu mic-linux-gnu, node wsl-x64, node wii-x64
 linux/arm64=go nilux/arm64
 opensuse-x64=dotnet openuse-x64
 aix/ppc64=go aix/ppc46

@@ -1,5 +1,5 @@
-//! What the plain modules of `tool_names` say: what a compiler's driver asks, the values of rustc's cfg options, and suggestions.
-use target_lexicon::{DeploymentTarget, Endianness, Field, Named as _, PointerWidth, Triple, TripleRef};
+//! What a compiler's driver asks, strings for LLVM, and suggestions.
+use target_lexicon::{Field, Triple, TripleRef};
 use target_names::{
     known_names, suggestion, visible, ChosenLibc, Dialect, Suggest as _, TargetInfo, TypeLayout, TypeSizes, VersionOf,
     Versions,
@@ -73,68 +73,8 @@ fn drivers_are_answered() {
     }
 }
 
-/// A triple, and after `=` its version of macOS.
-const APPLES: &str = "\
-x86_64-apple-macosx10.7.5=10.7.5
-aarch64-apple-macosx=-
-powerpc-apple-darwin3=-
-powerpc-apple-darwin4=10.0.0
-x86_64-apple-darwin19.6=10.15.0
-aarch64-apple-darwin20.1=11.0.0
-aarch64-apple-darwin25=26.0.0
-aarch64-apple-darwin65535=65535.0.0
-aarch64-apple-ios17=-
-unknown=-";
-
-#[test]
-fn versions_of_apples_systems_are_answered() {
-    let numbers = |it: DeploymentTarget| format!("{}.{}.{}", it.major, it.minor, it.patch);
-    for (triple, expected) in rows(APPLES) {
-        assert_eq!(shown(triple.macos_version().map(numbers)), expected, "{triple}");
-    }
-}
-
-/// A triple, and after `=` what rustc's options are: architecture, system, environment, ABI, families, vendor, pointer
-/// width and byte order. `checks/compare elsewhere` asks rustc of all its targets.
-const VALUES: &str = "\
-x86_64-unknown-linux-gnu=x86_64 linux gnu - unix unknown 64 little
-x86_64h-apple-macosx10.7=x86_64 macos - - unix apple 64 little
-aarch64-apple-xros2=aarch64 visionos - - unix apple 64 little
-thumbv7neon-linux-androideabi=arm android - eabi unix unknown 32 little
-wasm32-unknown-emscripten=wasm32 emscripten - - unix,wasm unknown 32 little
-i686-uwp-windows-gnu=x86 windows gnu uwp windows uwp 32 little
-pulley64-nuttx-linux=pulley64 linux - - unix nuttx 64 little
-unknown=unknown unknown - - - unknown - -";
-
-#[test]
-fn values_are_those_of_rustc() {
-    for (triple, expected) in rows(VALUES) {
-        let cfg = triple.rustc_cfg();
-        let found = [
-            cfg.target_arch.into(),
-            cfg.target_os.into(),
-            shown(Some(cfg.target_env)),
-            shown(Some(cfg.target_abi)),
-            shown(Some(cfg.target_family.join(","))),
-            cfg.target_vendor.into(),
-            shown(cfg.target_pointer_width.map(PointerWidth::bits)),
-            shown(cfg.target_endian.map(Endianness::name)),
-        ];
-        assert_eq!(found.join(" "), expected, "{triple}");
-    }
-}
-
-/// A triple, and after `=` the string that rustc gives to LLVM, which `checks/compare elsewhere` asks of all its
-/// targets; of the last five it has none.
+/// A triple that is no target of rustc, and after `=` the string for LLVM: of its own `checks/compare elsewhere` asks rustc.
 const LLVM_TARGETS: &str = "\
-riscv32imac-unknown-none-elf=riscv32
-thumbv7neon-linux-androideabi=armv7-none-linux-android
-x86_64-uwp-windows-gnu=x86_64-pc-windows-gnu
-armv7-rtems-eabihf=armv7-unknown-none-eabihf
-x86_64-fortanix-unknown-sgx=x86_64-elf
-x86_64-unknown-uefi=x86_64-unknown-windows
-mips64-unknown-linux-muslabi64=mips64-unknown-linux-musl
-x86_64-pc-windows-gnullvm=x86_64-pc-windows-gnu
 aarch64-apple-visionos=arm64-apple-xros
 aarch64-apple-darwin23.1=arm64-apple-macosx14.0.0
 x86_64-apple-macosx11.2.3=x86_64-apple-macosx11.2.3
@@ -147,18 +87,6 @@ fn strings_for_llvm_are_those_of_rustc() {
     for (triple, expected) in rows(LLVM_TARGETS) {
         assert_eq!(triple.llvm_target().to_string(), expected);
     }
-}
-
-/// Lines of rustc, with `'` for each `"` and a space for the end of each.
-const LINES: &str = "target_abi='' target_arch='wasm32' target_endian='little' target_env='' target_family='unix' \
-    target_family='wasm' target_os='emscripten' target_pointer_width='32' target_vendor='unknown' unix ";
-
-#[test]
-fn lines_are_those_of_rustc() {
-    let emscripten = parsed("wasm32-unknown-emscripten").rustc_cfg();
-    assert_eq!(emscripten.to_string(), LINES.replace('\'', "\"").replace(' ', "\n"));
-    let options = TripleRef::unknown().rustc_cfg().to_string();
-    assert!(!options.contains("endian") && !options.contains("width"));
 }
 
 /// For each field a name, or `-` for none, and after `=` the strings for which it should be suggested.
