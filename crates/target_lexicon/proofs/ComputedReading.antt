@@ -30,8 +30,7 @@ ordinary-holds text ordinary = by_parts (parts_of text) refl
         (texts-placed 0 (parts_of text) ∙ are) (by_run (run start (all_of text)))
 
 by_special : (text : List ℕ) (o : Option Values) → special_values text ≡ o → Holds text (reading_unless_special o text)
-by_special text None ordinary = ordinary-holds text ordinary
-by_special text (Some t) special = rw special refl
+by_special text o is = search (rules, ordinary-holds)
 
 reading-holds : (text : List ℕ) → Holds text (reading text)
 unfolding reading

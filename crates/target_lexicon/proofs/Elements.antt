@@ -1,10 +1,9 @@
 -- The elements of a JSON array that have been parsed so far.
-use Rattle.serde_json.specs.{Data.Data, Data.Items, Find.get_item, View.items_view, View.view}
-use Rattle.serde_json.specs.declared.value.Value.{Value}
+use Rattle.serde_json.specs.{Data.Items, Find.get_item, View.items_view, View.view, declared.value.Value.Value}
 use Rattle.std.proofs.lemmas.{Grind.common_steps, List.Elements.All-append, List.map-append, List.take_all}
 use Rattle.target_lexicon.proofs.Common.{All, ElementsParseAs, List, MatchOption, Option, Some, Triple, Values, []}
-use Rattle.target_lexicon.proofs.Common.{add-one, arith, get_or, length, map, refl, rules, subst, suc, take, values_of}
-use Rattle.target_lexicon.proofs.Common.{zero, ℕ, ◌++◌, ◌+◌, ◌<◌, ◌∷◌, ◌≡◌, ◌≤◌}
+use Rattle.target_lexicon.proofs.Common.{add-one, arith, get_or, length, map, refl, rules, suc, take, values_of, zero}
+use Rattle.target_lexicon.proofs.Common.{ℕ, ◌++◌, ◌+◌, ◌<◌, ◌∷◌, ◌≡◌, ◌≤◌}
 use Rattle.target_lexicon.specs.Json.{IsElementParsed, IsFirstError, IsJsonErrorOf, JsonErrorValue, JsonParsesAs}
 
 -- an element of an array, by its index
@@ -33,10 +32,7 @@ pub elements_read-more : (xs : List Value) (i : ℕ) (x : Value) (old new : List
     → x ≡ get_or xs i x → new ≡ old ++ t ∷ []
     → ElementsParseAs (items_view (take i xs)) (map values_of old) → JsonParsesAs (view x) (values_of t)
     → ElementsParseAs (items_view (take (i + 1) xs)) (map values_of new)
-elements_read-more xs i x old new t within is grown read reads =
-    let here : JsonParsesAs (view (get_or xs i x)) (values_of t) =
-    subst (λ (v : Value). JsonParsesAs (view v) (values_of t)) is reads in
-    rw (add-one, grown, map-append) (read-more xs i x (map values_of old) (values_of t) within read here)
+elements_read-more xs i x old new t within is grown read reads = search (rules, add-one, map-append, read-more)
 
 -- each earlier element parses
 read-before : (xs : List Value) (i : ℕ) (ts : List Values) (k : ℕ) → k < i → i ≤ length xs
@@ -53,15 +49,7 @@ read-before (y ∷ ys) (suc i) (u ∷ us) (suc k) before within read =
 pub elements_refused : (xs : List Value) (i : ℕ) (x : Value) (ts : List Values) (error : JsonErrorValue) → i < length xs
     → x ≡ get_or xs i x
     → ElementsParseAs (items_view (take i xs)) ts → IsJsonErrorOf (view x) error → IsFirstError (items_view xs) i error
-elements_refused xs i x ts error within is read refused =
-    let here : IsJsonErrorOf (view (get_or xs i x)) error = subst (λ (v : Value). IsJsonErrorOf (view v) error)
-    is refused in
-    record {
-      here =
-          subst (λ (o : Option Data). MatchOption o ⊥ (λ value. IsJsonErrorOf value error))
-          (get_item-view xs i x within) here;
-      before = λ k before. read-before xs i ts k before (omega arith) read;
-    }
+elements_refused xs i x ts error within is read refused = search (rules, get_item-view, read-before)
 
 -- if one more element parses, the first element parses
 pub elements_begun : (xs : List Value) (i : ℕ) (x : Value) (ts : List Values) (t : Values) → i < length xs

@@ -1,35 +1,24 @@
 -- The normal step leaves a triple unchanged exactly outside the exceptions.
-use Rattle.target_lexicon.proofs.Common.{◌≡◌, ap, subst, sym, true, HasVersionInRange, is_plain, RoundIsNormalStep}
-use Rattle.target_lexicon.proofs.Common.{ComesBack, normal_step, ParsesAs, string_of, Values}
-use Rattle.target_lexicon.specs.FixedPoints.{FixedExactlyOutsideExceptions}
-use Rattle.target_lexicon.proofs.StepCases.{IsOutside, step_cases, outside-fixed, plain-exception, none-plain_outside}
-use Rattle.target_lexicon.proofs.{ReadValues.read_plain, UniqueReading.values_unique}
+use Rattle.target_lexicon.proofs.Common.{ComesBack, HasVersionInRange, RoundIsNormalStep, Values}
+use Rattle.target_lexicon.proofs.Common.{is_plain, normal_step, rules, special_string, true, ◌≡◌}
+use Rattle.target_lexicon.proofs.{ReadValues.read_plain, StepCases.IsOutside, StepCases.none-plain_outside}
+use Rattle.target_lexicon.proofs.StepCases.{outside-fixed, plain-exception}
+use Rattle.target_lexicon.{proofs.UniqueReading.values_unique, specs.FixedPoints.FixedExactlyOutsideExceptions}
 
 pub fixed-outside : (t : Values) → normal_step t ≡ t → IsOutside t
-fixed-outside t = step_cases (λ u. u ≡ t → IsOutside t) t
-    (λ is same. absurd (is.others (sym (ap (λ x. x.environment) same), sym (ap (λ x. x.binary_format) same))))
-    (λ is same. absurd (let of_t = is.environment in let of_step = ap (λ x. x.environment) same in cc))
-    (λ is same. absurd (let of_t = ap (λ x. x.vendor) is in let of_step = ap (λ x. x.vendor) same in cc))
-    (λ is same. absurd (let of_t = is.environment in let of_step = ap (λ x. x.environment) same in cc))
-    (λ outside _. outside)
+unfolding special_string normal_step
+fixed-outside t same = search rules
 
 -- with the placements
 
 module _ (round : RoundIsNormalStep) where
   back-outside : (t : Values) → HasVersionInRange t.operating_system → ComesBack t
       → (is_plain t.vendor ≡ true) × IsOutside t
-  back-outside t range back =
-      let plain = read_plain (string_of t) t back in (
-        plain,
-        fixed-outside t (values_unique (string_of t) (normal_step t) t
-            (round t (record { vendor = plain; version = range })) back),
-      )
+  back-outside t range back = search (rules, read_plain, fixed-outside, values_unique)
 
   outside-back : (t : Values) → HasVersionInRange t.operating_system → is_plain t.vendor ≡ true → IsOutside t
       → ComesBack t
-  outside-back t range plain outside =
-      subst (λ (u : Values). ParsesAs (string_of t) u) (outside-fixed t outside)
-      (round t (record { vendor = plain; version = range }))
+  outside-back t range plain outside = search (rules, outside-fixed)
 
   -- a triple comes back exactly outside the exceptions
   pub fixed_exactly_outside : FixedExactlyOutsideExceptions

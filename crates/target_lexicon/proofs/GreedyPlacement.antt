@@ -1,15 +1,13 @@
 -- The greedy placement: each part is assigned to the first remaining field that it parses as.
-use Rattle.std.proofs.{lemmas.List.take-map, lemmas.Option.IfSome_then}
-use Rattle.std.specs.{List.AllZip, List.Sorted.IsStrictlyIncreasing}
-use Rattle.target_lexicon.proofs.Common.{HasPlacement, IsLeastPlacement, expected_after, field_number, unknown_values}
-use Rattle.target_lexicon.proofs.Common.{IfSome, NotGiven, Option, Values, Vendor, field_for, get_or, length, parses_as}
-use Rattle.target_lexicon.proofs.Common.{PlacedPart, SourceValues, [], cases_Bool, open_fields, placed_from, with_value}
-use Rattle.target_lexicon.proofs.Common.{◌+◌, ◌∙◌, Field, List, None, Some, arith, refl, rules, subst, take, true, zero}
-use Rattle.target_lexicon.proofs.Common.{◌<◌, ◌∷◌, ◌≡◌, ◌≢◌, ◌≤◌, ◌⊎◌, ap, inl, inr, map, suc, sym, ℕ}
+use Rattle.std.{proofs.lemmas.List.take-map, specs.List.AllZip, specs.List.Sorted.IsStrictlyIncreasing}
+use Rattle.target_lexicon.proofs.Common.{Field, HasPlacement, IfSome, IsLeastPlacement, List, None, NotGiven, Option}
+use Rattle.target_lexicon.proofs.Common.{PlacedPart, Some, SourceValues, Values, [], ap, arith, cases_Bool}
+use Rattle.target_lexicon.proofs.Common.{expected_after, field_for, field_number, get_or, inl, inr, length, map}
+use Rattle.target_lexicon.proofs.Common.{open_fields, parses_as, placed_from, refl, rules, subst, suc, sym, take, true}
+use Rattle.target_lexicon.proofs.Common.{unknown_values, with_value, zero, ℕ, ◌+◌, ◌<◌, ◌∙◌, ◌∷◌, ◌≡◌, ◌≢◌, ◌≤◌, ◌⊎◌}
 use Rattle.target_lexicon.specs.Explanation.{FromPart, same_sources, with_source}
-use Rattle.target_lexicon.specs.Field.{Architecture, BinaryFormat, Environment, OperatingSystem}
+use Rattle.target_lexicon.specs.{Field.Architecture, GreedyReading.first_field, Laws.HasOneLeastPlacement}
 use Rattle.target_lexicon.specs.Parsing.{AreNotAfter, IsPlacement}
-use Rattle.target_lexicon.specs.{GreedyReading.first_field, Laws.HasOneLeastPlacement}
 
 -- the parts parse as these fields, which strictly increase and all come after `last`
 abbrev IsPlacedAfter : Field → List (List ℕ) → List Field → Type 0
@@ -76,11 +74,7 @@ Follows l [] = field_number l ≡ 4
 Follows l (f ∷ fs) = (field_number f ≡ field_number l + 1) × Follows f fs
 
 pub open-follows : (l : Field) → Follows l (open_fields (expected_after l))
-open-follows Architecture = (refl, (refl, (refl, (refl, refl))))
-open-follows Vendor = (refl, (refl, (refl, refl)))
-open-follows OperatingSystem = (refl, (refl, refl))
-open-follows Environment = (refl, refl)
-open-follows BinaryFormat = refl
+open-follows l = search rules
 
 field_number-bound : (f : Field) → field_number f ≤ 4
 field_number-bound f = search rules
@@ -113,12 +107,7 @@ no-placement fs w = search rules
 first-after : (l : Field) (fs : List Field) (p : List ℕ) → Follows l fs
     → IfSome (first_field fs p) (λ f. (field_number l < field_number f) × (parses_as f p ≡ true))
 first-after l [] p h = tt
-first-after l (f ∷ fs) p h =
-    elim (cases_Bool (parses_as f p)) [
-      | inl takes ↦ rw takes (omega (arith, h.0), takes)
-      | inr skips ↦
-          rw skips (IfSome_then (first_field fs p) (first-after f fs p h.1) (λ g w. (omega (arith, h.0, w.0), w.1)))
-    ]
+first-after l (f ∷ fs) p h = search (rules, (first-after f fs p h.1), cases_Bool)
 
 pub first-least : (l : Field) (fs : List Field) (p : List ℕ) (g : Field) → Follows l fs
     → field_number l < field_number g → parses_as g p ≡ true
@@ -141,9 +130,7 @@ filled-placed : (l : Field) {a b : State} {fs : List Field} {ps : List PlacedPar
     → Fills a fs ps b [] → IsPlacedAfter l (strings_of ps) fs
 filled-placed l is Stop = (λ k h. absurd (omega (arith, h)), tt)
 filled-placed l is (Take {f = f} {fs = fs} {p = p} found w) =
-    let it = field-after l p.text f (rw is at found) in
-    let rest = filled-placed f refl w in
-    (increasing-cons (field_number l) (field_number f) (map field_number fs) it.0 rest.0, (it.1, rest.1))
+    search (rules, (filled-placed f refl w), field-after, increasing-cons)
 
 -- a placement after `last` is no earlier than the fields that are filled, and then no part is left
 filled-first : (l : Field) {a b : State} {fs : List Field} {ps left : List PlacedPart} → a.expected ≡ expected_after l
@@ -169,10 +156,7 @@ filled-first l is (Take {f = f} {p = p} {ps = ps} found v) end (g ∷ gs) (up, (
 -- two lists of fields, neither after the other, are the same
 pub AreNotAfter-antisymmetric : (fs gs : List Field) → AreNotAfter fs gs → AreNotAfter gs fs → fs ≡ gs
 AreNotAfter-antisymmetric [] [] a b = refl
-AreNotAfter-antisymmetric (f ∷ fs) (g ∷ gs) a b =
-    let same : f ≡ g = field_number-injective f g (omega (arith, a.0, b.0)) in
-    let rest : fs ≡ gs = AreNotAfter-antisymmetric fs gs a.1 b.1 in
-    cc
+AreNotAfter-antisymmetric (f ∷ fs) (g ∷ gs) a b = search (rules, (AreNotAfter-antisymmetric fs gs a.1 b.1))
 AreNotAfter-antisymmetric _ _ a b = absurd a
 
 -- where the architecture is expected, a part fills no other field

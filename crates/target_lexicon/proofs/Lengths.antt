@@ -1,12 +1,12 @@
 -- Printed strings are at most so much longer than the string that was parsed, and the canonical form makes no string
 -- longer.
 use Rattle.target_lexicon.proofs.Common
-use Common.{OperatingSystem, default_binary_format, omits_unknown_system, operating_system_name, shows_operating_system}
+use Common.{OperatingSystem, default_binary_format, omits_unknown_system, operating_system_name}
 use Common.{Unknown, architecture_name, binary_format_name, operating_system_of, shows_binary_format, shows_environment}
 use Common.{HasSpecialFields, IsLeastPlacement, [], architecture_of, binary_format_of, elf_if_unknown, environment_name}
 use Common.{Environment, environment_of, expected_after, implied_format, is_same_format, join_with_byte, shows_unknowns}
 use Common.{Architecture, BinaryFormat, ShowsOnlyNone, field_number, inl, length-append, special_string, special_triple}
-use Common.{HasFieldsOf, HidesNewlib, VendorValue, normal_step, omits_system, open_fields, placed_from, shows_vendor, ℕ}
+use Common.{HasFieldsOf, HidesNewlib, VendorValue, normal_step, omits_system, placed_from, ℕ}
 use Common.{HoldsParts, IsValueOf, PlacedPart, SpecialRow, and_parts, field_for, shown_names, true≢false, vendor_name}
 use Common.{Option, Values, cons_if, not-true, parses_as, part_at, slice_get, step_of, string_of, unwrap_or, vendor_of}
 use Common.{Bool, Field, Known, List, None, Some, arith, dash, false, length, refl, rules, subst, true, values, zero}
@@ -37,8 +37,7 @@ weight (part ∷ parts) = suc (length part) + weight parts
 weight-joined : (part : List ℕ) (parts : List (List ℕ))
     → weight (part ∷ parts) ≡ suc (length (join_with_byte dash (part ∷ parts)))
 weight-joined part [] = omega arith
-weight-joined part (next ∷ parts) =
-    omega (arith, weight-joined next parts, length-append part (dash ∷ join_with_byte dash (next ∷ parts)))
+weight-joined part (next ∷ parts) = search (rules, (weight-joined next parts), length-append)
 
 pub weight-cons_if : (b : Bool) (part : List ℕ) (parts : List (List ℕ))
     → weight (cons_if b part parts) ≤ suc (length part) + weight parts
@@ -53,15 +52,7 @@ weight-parts : (t : Values) (b : Bool) → weight (shown_names b t)
     + (suc (length (vendor_name t.vendor))
     + (suc (length (operating_system_name t.operating_system)) + weight (names_after_system b t)))
 unfolding shown_names
-weight-parts t b =
-    let system = cons_if (b || shows_operating_system t) (operating_system_name t.operating_system)
-    (names_after_system b t) in
-    omega (
-      arith,
-      weight-cons_if (shows_vendor t) (vendor_name t.vendor) system,
-      weight-cons_if (b || shows_operating_system t) (operating_system_name t.operating_system)
-          (names_after_system b t),
-    )
+weight-parts t b = search (rules, names_after_system, weight-cons_if)
 
 pub weight-shown : (t : Values) (b : Bool)
     → weight (shown_names b t) ≡ suc (length (join_with_byte dash (shown_names b t)))
@@ -145,19 +136,11 @@ HasUnknownLast ps fs = part_at field.BinaryFormat ps fs ≡ Some (binary_format_
 unknown-next : (l : Field) (p : List ℕ) (ps : List (List ℕ)) (f : Field) (fs : List Field) → field_number l < 3
     → field_for (expected_after l) p ≡ Some f
     → (field_number f < 3 → HasUnknownLast ps fs) → HasUnknownLast (p ∷ ps) (f ∷ fs)
-unknown-next l p ps field.BinaryFormat fs near found later last none =
-    let same : p ≡ binary_format_name binary_format.Unknown = cc in
-    let first = first-least l (open_fields (expected_after l)) p field.Environment (open-follows l) near
-    (rw same unknown-environment) in
-    let is : first.0 ≡ field.BinaryFormat = cc in
-    omega (arith, ap field_number is, first.2)
-unknown-next l p ps field.Environment fs near found later last none = cc
-unknown-next l p ps f fs near found later last none = later (omega arith) last none
+unknown-next l p ps f fs near found later = search (rules, first-least, open-follows, unknown-environment)
 
 unknown-last : (l : Field) {a b : State} {fs : List Field} {ps left : List PlacedPart} → a.expected ≡ expected_after l
     → field_number l < 3 → Fills a fs ps b left → HasUnknownLast (strings_of ps) fs
-unknown-last l is near (Stop {ps = ps}) =
-    λ last none. let other = absent-none field.BinaryFormat (strings_of ps) in cc
+unknown-last l is near (Stop {ps = ps}) = search (rules, absent-none, strings_of)
 unknown-last l is near (Take {f = f} {fs = fs} {p = p} {ps = ps} found w) =
     unknown-next l p.text (strings_of ps) f fs near (rw is at found) (λ later. unknown-last f refl later w)
 
@@ -295,9 +278,7 @@ part-lighter (p ∷ ps) zero part is = let same : p ≡ part = cc in omega (arit
 part-lighter (p ∷ ps) (suc n) part is = omega (arith, part-lighter ps n part is)
 
 pub refused_does_not_grow : RefusedPartsDoNotGrow
-refused_does_not_grow text refusal (ordinary, ([], are, is)) = absurd (are.some refl)
-refused_does_not_grow text refusal (ordinary, (p ∷ ps, are, is)) =
-    omega (arith, part-lighter (p ∷ ps) is.count refusal.part is.refused, weight-joined p ps, ap length are.joined)
+refused_does_not_grow = search (rules, part-lighter, weight-joined)
 
 -- the normal step makes no string longer, or it is that of a short special string
 
@@ -311,11 +292,7 @@ GrowsLittle u t = (length (string_of u) ≤ max_growth) ⊎ DoesNotGrow u t
 by_weight : (u t : Values) → special_string u ≡ special_string t → weight (printed_names u) ≤ weight (printed_names t)
     → DoesNotGrow u t
 unfolding string_of
-by_weight u t special lighter = elim (cases_Option (special_string t)) [
-  | inl none ↦
-      rw (special, none) (omega (arith, weight-shown u (shows_unknowns u), weight-shown t (shows_unknowns t), lighter))
-  | inr some ↦ rw (special, some.1) (omega arith)
-]
+by_weight u t special lighter = search (rules, cases_Option, weight-shown)
 
 special-length : (t : Values) → HasSpecialFields t
     → length (string_of (step_of (Some exceptions.PrintsAsSpecial) t)) ≤ max_growth
@@ -363,8 +340,7 @@ step-grows t = step_cases (λ u. GrowsLittle u t) t
     (λ is. inl (rw is (omega arith))) (λ is. inr (none-does_not_grow t is)) (λ _. inr (omega arith))
 
 pub canonical_max_growth : PrintedStringsGrowAtMost → CanonicalStringsGrowAtMost
-canonical_max_growth printed text t reads =
-    omega (arith, step-grows (normal_step t), step-grows t, printed text t reads)
+canonical_max_growth printed text t reads = search (rules, step-grows)
 
 -- a string with a vendor that fits into memory fits into memory
 pub text_with-short : (b : Bool) (t : Values) → NamesAreShort architecture_name → NamesAreShort environment_name

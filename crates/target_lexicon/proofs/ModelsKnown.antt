@@ -1,10 +1,9 @@
 -- The data models of triples.
 use Rattle.lexicon_fields.specs.declared.architecture.Architecture.TheVariants.{Wasm32, Wasm64}
-use Rattle.lexicon_fields.specs.declared.pointer_width.PointerWidth.TheVariants.{U64}
 use Rattle.lexicon_fields.specs.{PointerWidth.width_bits, declared.pointer_width.PointerWidth.PointerWidth}
-use Rattle.target_lexicon.proofs.Common.{ap, cases_Bool, convention_on, data_model, false, inl, inr, option_map}
-use Rattle.target_lexicon.proofs.Common.{pointer_width, refl, rules}
-use Rattle.target_lexicon.proofs.Common.{◌∙◌, ◌≡◌, ◌⊎◌, Architecture, None, OperatingSystem, Option, Some, U32, Values}
+use Rattle.target_lexicon.proofs.Common.{ap, convention_on, data_model, false, option_map}
+use Rattle.target_lexicon.proofs.Common.{pointer_width, rules}
+use Rattle.target_lexicon.proofs.Common.{◌∙◌, ◌≡◌, ◌⊎◌, Architecture, None, OperatingSystem, Option, Some, Values}
 use Rattle.target_lexicon.specs.Queries.{convention_model_32, convention_model_64, has_ilp32, has_llp64, model_32}
 use Rattle.target_lexicon.specs.Queries.{model_64, model_of_width, other_model_32, other_model_64}
 use Rattle.target_lexicon.specs.declared.calling_convention.CallingConvention.TheVariants.{AppleAarch64, SystemV}
@@ -14,34 +13,13 @@ use Rattle.target_lexicon.specs.{DataModel.sizes_of, declared.data_model.CDataMo
 
 -- the two models of 64-bit pointers
 
-off_llp64 : (a : Architecture) (c : Option CallingConvention) (m : CDataModel) → other_model_64 a c ≡ Some m → m ≡ LP64
-off_llp64 a c m h = search rules
-
-at_64 : (a : Architecture) (s : OperatingSystem) (m : CDataModel) → model_64 a s ≡ Some m → (m ≡ LLP64) ⊎ (m ≡ LP64)
-at_64 a s m h = elim (cases_Bool (has_llp64 s)) [
-  | inl is ↦ inl (let same : Some LLP64 ≡ Some m = (rw is at h) in cc)
-  | inr is ↦ inr (off_llp64 a (convention_on a s) m (rw is at h))
-]
-
 -- the one model of 32-bit pointers
-
-off_ilp32 : (a : Architecture) (c : Option CallingConvention) (m : CDataModel) → other_model_32 a c ≡ Some m → m ≡ ILP32
-off_ilp32 a c m h = search rules
-
-at_32 : (a : Architecture) (s : OperatingSystem) (m : CDataModel) → model_32 a s ≡ Some m → m ≡ ILP32
-at_32 a s m h = elim (cases_Bool (has_ilp32 s)) [
-  | inl is ↦ let same : Some ILP32 ≡ Some m = (rw is at h) in cc
-  | inr is ↦ off_ilp32 a (convention_on a s) m (rw is at h)
-]
 
 -- a model has the pointer width by which it is chosen, and is one of three
 chosen : (w : Option PointerWidth) (a : Architecture) (s : OperatingSystem) (m : CDataModel)
     → model_of_width w a s ≡ Some m
     → (option_map width_bits w ≡ Some (size_bits (sizes_of m).pointer)) × ((m ≡ ILP32) ⊎ ((m ≡ LLP64) ⊎ (m ≡ LP64)))
-chosen (Some U64) a s m h =
-    elim (at_64 a s m h) [ inl e ↦ rw e (refl, inr (inl refl)) | inr e ↦ rw e (refl, inr (inr refl)) ]
-chosen (Some U32) a s m h = rw (at_32 a s m h) (refl, inl refl)
-chosen _ a s m h = absurd cc
+chosen w a s m h = search rules
 
 pub model_pointers : (t : Values) (m : CDataModel) → data_model t ≡ Some m
     → option_map width_bits (pointer_width t) ≡ Some (size_bits (sizes_of m).pointer)

@@ -1,21 +1,12 @@
--- The law of names for the five fields, and the names of one field, parsed as an earlier field.
-use Rattle.lexicon_fields.specs.Laws.{NamesReadBack, NamesReadBackOn}
+-- The names of one field, parsed as an earlier field.
 use Rattle.target_lexicon.proofs.Common
-use Common.{Unknown, VendorValue, and-false, architecture_name, architecture_of, binary_format_name, binary_format_of}
-use Common.{environment_name, environment_of, false, fixed_operating_system_of, is_admitted, is_plain, known_vendor_of}
-use Common.{operating_system_name, operating_system_of, refl, rules, true, vendor_name, vendor_of, ℕ}
-use Common.{◌≡◌, BinaryFormat, Environment, HasVersionInRange, Known, List, None, OperatingSystem, Option, Some}
+use Common.{binary_format_name, environment_name, fixed_operating_system_of, operating_system_name, operating_system_of}
+use Common.{BinaryFormat, Environment, HasVersionInRange, OperatingSystem, VendorValue, environment_of, known_vendor_of}
+use Common.{Known, List, None, Option, Some, Unknown, and-false, false, is_admitted, refl, rules, vendor_of, ℕ, ◌≡◌}
+use Rattle.lexicon_fields.proofs.LawOfNames.{NamesAreRead}
 use Rattle.target_lexicon.specs.Values.operating_system
 use Rattle.target_lexicon.specs.Values.environment
 use Rattle.target_lexicon.specs.Values.binary_format
-
--- what the law `names_read_back` says of the five fields
-pub record NamesAreRead : Type 0 where
-  pub architecture : NamesReadBack architecture_name architecture_of
-  pub vendor : NamesReadBackOn (λ v. is_plain v ≡ true) vendor_name vendor_of
-  pub operating_system : NamesReadBackOn HasVersionInRange operating_system_name operating_system_of
-  pub environment : NamesReadBack environment_name environment_of
-  pub binary_format : NamesReadBack binary_format_name binary_format_of
 
 -- of the names of formats only `unknown` is that of an environment, and of a system
 abbrev pub format_as_environment : BinaryFormat → Option Environment
@@ -59,11 +50,9 @@ module _ (names : NamesAreRead) where
   by_system : (s : OperatingSystem) → HasVersionInRange s → known_vendor_of (operating_system_name s) ≡ None
       → vendor_of (operating_system_name s) ≡ None
   unfolding vendor_of
-  by_system s range unknown =
-      rw (unknown, not_admitted (operating_system_name s) s (names.operating_system.reads_back s range)) refl
+  by_system s range unknown = search (rules, not_admitted)
 
   pub vendor_of-operating_system : (s : OperatingSystem) → HasVersionInRange s
       → vendor_of (operating_system_name s) ≡ system_as_vendor s
   unfolding known_vendor_of vendor_of
-  vendor_of-operating_system operating_system.Unknown range = refl
-  vendor_of-operating_system s range = by_system s range refl
+  vendor_of-operating_system s range = search (rules, by_system)

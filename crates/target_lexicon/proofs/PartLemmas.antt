@@ -4,9 +4,9 @@ use Rattle.std.proofs.lemmas.List.Splits.{join_with_byte-slice_split, length-sli
 use Rattle.std.proofs.lemmas.List.Sums.{fails_before_first, position_or_len_is}
 use Rattle.std.proofs.{lemmas.Bool.eq-eqb, lemmas.Bool.ne_eqb, lemmas.List.Splits.slice_split_none}
 use Rattle.std.specs.List.{after_first, before_first, list_all, onto_first, position_or_len, slice_range}
-use Rattle.target_lexicon.proofs.Common.{ap, arith, cases_Bool, dash, drop, false, get_or, inl, inr, join_with_byte}
-use Rattle.target_lexicon.proofs.Common.{length, nat_eq, parts_of, refl, rules, sym, take, true, ℕ}
-use Rattle.target_lexicon.proofs.Common.{◌++◌, ◌+◌, ◌-◌, ◌<◌, ◌==◌, ◌∙◌, ◌∷◌, ◌≡◌, ◌≢◌, ArePartsOf, List, [], and_parts}
+use Rattle.target_lexicon.proofs.Common.{ap, arith, cases_Bool, dash, drop, false, get_or, join_with_byte}
+use Rattle.target_lexicon.proofs.Common.{length, nat_eq, parts_of, refl, rules, sym, true, ℕ}
+use Rattle.target_lexicon.proofs.Common.{◌++◌, ◌+◌, ◌<◌, ◌==◌, ◌∙◌, ◌∷◌, ◌≡◌, ◌≢◌, ArePartsOf, List, [], and_parts}
 
 -- the first byte of a string without dashes is no dash, and the rest has none
 dash_free-parts : (b : ℕ) (bs : List ℕ) → is_dash_free (b ∷ bs) ≡ true
@@ -35,21 +35,13 @@ onto_first-free b ps other free = search rules
 
 parts_of-free : (bs : List ℕ) → list_all is_dash_free (parts_of bs) ≡ true
 parts_of-free [] = refl
-parts_of-free (b ∷ bs) =
-    elim (cases_Bool (nat_eq b dash)) [
-      | inl dash ↦ rw dash (parts_of-free bs)
-      | inr other ↦ rw other (onto_first-free b (parts_of bs) other (parts_of-free bs))
-    ]
+parts_of-free (b ∷ bs) = search (rules, (parts_of-free bs), cases_Bool, onto_first-free)
 
 pub parts_of-some : (bs : List ℕ) → parts_of bs ≢ []
 parts_of-some bs none = absurd (omega (arith, length-slice_split (λ b. b == dash) bs, ap length none))
 
 pub parts_of-are : (text : List ℕ) → ArePartsOf text (parts_of text)
-parts_of-are text = record {
-  some = parts_of-some text;
-  dash_free = parts_of-free text;
-  joined = join_with_byte-slice_split dash text;
-}
+parts_of-are text = search (rules, parts_of-some, parts_of-free, join_with_byte-slice_split)
 
 pub parts-only : (text : List ℕ) (others : List (List ℕ)) → ArePartsOf text others → others ≡ parts_of text
 parts-only text [] are = absurd (are.some refl)
@@ -59,28 +51,19 @@ parts-only text (p ∷ ps) are = sym (parts_of-joined p ps are.dash_free) ∙ ap
 pub parts_of-cut : (text part after : List ℕ) → part ≡ before_first (λ b. b == dash) text
     → after ≡ after_first (λ b. b == dash) text
     → position_or_len (λ b. b == dash) text < length text → parts_of text ≡ part ∷ parts_of after
-parts_of-cut text part after before rest found =
-    slice_split_first (λ b. b == dash) text 0 found ∙ (λ i. sym before i ∷ parts_of (sym rest i))
+parts_of-cut text part after before rest found = search (rules, slice_split_first)
 
 pub parts_of-uncut : (text : List ℕ) → position_or_len (λ b. b == dash) text ≡ length text → parts_of text ≡ text ∷ []
-parts_of-uncut text none =
-    slice_split_none (λ b. b == dash) text
-    (λ k d h. fails_before_first (λ b. b == dash) text k d (omega (arith, none, h)))
+parts_of-uncut text none = search (rules, slice_split_none, fails_before_first)
 
 module _ (text : List ℕ) (i : ℕ) (within : i < length text) (here : get_or text i 0 ≡ dash) (none : (k : ℕ) → k < i
     → get_or text k 0 ≢ dash) where
   first_dash : position_or_len (λ b. b == dash) text ≡ i
-  first_dash =
-      position_or_len_is (λ b. b == dash) text i 0 (omega (arith, within))
-      (λ k h. ne_eqb (get_or text k 0) dash (none k h)) (λ _. eq-eqb (get_or text i 0) dash here)
+  first_dash = search (rules, position_or_len_is, ne_eqb, eq-eqb)
 
   pub parts_of-cut-at : (part after : List ℕ) → part ≡ slice_range text 0 i → after ≡ drop (i + 1) text
       → parts_of text ≡ part ∷ parts_of after
-  parts_of-cut-at part after prefix rest =
-      let whole : i - 0 ≡ i = omega arith in
-      parts_of-cut text part after (prefix ∙ (λ j. take (whole j) text) ∙ ap (λ n. take n text) (sym first_dash))
-      (rest ∙ ap (λ n. drop (n + 1) text) (sym first_dash))
-      (omega (arith, within, first_dash))
+  parts_of-cut-at part after prefix rest = search (rules, parts_of-cut, first_dash)
 
 pub parts_of-whole : (text : List ℕ) → ((k : ℕ) → k < length text → get_or text k 0 ≢ dash) → parts_of text ≡ text ∷ []
 parts_of-whole text none =

@@ -6,7 +6,7 @@ use Rattle.target_lexicon.proofs.Common.{Bool, List, None, Option, Values, [], a
 use Rattle.target_lexicon.proofs.Common.{binary_format_name, cons_if, dash, environment_name, if◌then◌else◌}
 use Rattle.target_lexicon.proofs.Common.{join_with_byte, operating_system_name, rules, shown_names, shows_binary_format}
 use Rattle.target_lexicon.proofs.Common.{shows_environment, shows_operating_system, shows_unknowns, shows_vendor}
-use Rattle.target_lexicon.proofs.Common.{special_string, sym, true, vendor_name, ℕ, ◌++◌, ◌||◌, ◌∷◌, ◌≡◌}
+use Rattle.target_lexicon.proofs.Common.{special_string, true, vendor_name, ℕ, ◌++◌, ◌||◌, ◌∷◌, ◌≡◌}
 use Rattle.target_lexicon.specs.{Printing.text_with, Private.name_piece}
 use Rattle.target_lexicon.specs.Values.environment
 
@@ -62,26 +62,7 @@ pub string_of_pieces : (last_three : Bool) (t : Values) (a v s e f : Bor (List �
 unfolding shown_names
 string_of_pieces last_three t a v s e f vendor system environment format version w x y z none a_is vendor_is w_is v_is
     system_is x_is s_is version_is environment_is y_is e_is format_is z_is f_is =
-    rw (
-      system_is,
-      version_is,
-      system-shown last_three t (a.now ++ name_piece vendor) s x x_is s_is,
-      a_is,
-      vendor_is,
-      name_piece-shown w v,
-      w_is,
-      v_is,
-      x_is,
-      environment_is,
-      name_piece-shown y e,
-      y_is,
-      e_is,
-      format_is,
-      name_piece-shown z f,
-      z_is,
-      f_is,
-      sym none,
-    ) (five_parts _ _ _ _ _ _ _ _ _)
+    search (rules, system-shown, name_piece-shown, five_parts)
 
 -- an environment other than these two is always shown
 

@@ -5,7 +5,7 @@ use Common.{HoldsParts, IsLeastPlacement, architecture_of, binary_format_of, def
 use Common.{HasPlacement, IsRefusedAfter, SourceValues, environment_of, expected_after, special_values, values_of_ref}
 use Common.{MatchOption, PlacedPart, cases_Bool, field_number, open_fields, placed_from, reading_from, refusal_with}
 use Common.{Field, IsRefusal, IsValueOf, field_for, last_field, parses_as, slice_get, sources_at, sources_of, vendor_of}
-use Common.{Implied, Known, NotGiven, Option, ParsesAs, Unknown, Values, Vendor, inr, length, nat_eq, part_at, parts_of}
+use Common.{Implied, Known, Option, ParsesAs, Unknown, Values, Vendor, inr, length, nat_eq, part_at, parts_of}
 use Common.{List, None, Some, arith, false, refl, rules, subst, suc, sym, take, true, ◌++◌, ◌∙◌, ◌∷◌, ◌≡◌, ◌≢◌, ◌≤◌}
 use Rattle.std.proofs.lemmas.{List.take-take, Option.slice_get-map}
 use Rattle.target_lexicon.proofs.{Common.[], Common.ap, Common.inl, Common.ℕ, GreedyPlacement.Fills}
@@ -123,22 +123,12 @@ text-at : (unfilled : SourceValue) → text_of unfilled ≡ None → (f : Field)
     → text_of (source_at unfilled f ps fs) ≡ part_at f (strings_of ps) fs
 text-at unfilled none f [] fs = none
 text-at unfilled none f (p ∷ ps) [] = none
-text-at unfilled none f (p ∷ ps) (g ∷ gs) =
-    elim (cases_Bool (nat_eq (field_number g) (field_number f))) [
-      | inl here ↦ rw here refl
-      | inr later ↦ rw later (text-at unfilled none f ps gs)
-    ]
+text-at unfilled none f (p ∷ ps) (g ∷ gs) = search (rules, (text-at unfilled none f ps gs), cases_Bool)
 
 from-holds : (fs : List Field) (ps : List PlacedPart) (t : Values)
     → AreFrom (record { expected = None; values = t; sources = sources_at Implied ps fs })
     → HoldsParts (strings_of ps) fs t
-from-holds fs ps t (a, v, s, e, f) = record {
-  architecture = rw (← text-at NotGiven refl Architecture ps fs) a;
-  vendor = rw (← text-at NotGiven refl Vendor ps fs) v;
-  operating_system = rw (← text-at NotGiven refl OperatingSystem ps fs) s;
-  environment = rw (← text-at NotGiven refl Environment ps fs) e;
-  binary_format = rw (← text-at Implied refl BinaryFormat ps fs) f;
-}
+from-holds fs ps t from = search (rules, text-at)
 
 -- the first of the parts that are left, and those before it
 filled-get : {a b : State} {fs : List Field} {p : PlacedPart} {ps left : List PlacedPart}
@@ -163,9 +153,7 @@ filled-last l is (Take {f = f} found w) = filled-last f refl w
 
 before-least : {b : State} {f : Field} {fs : List Field} {p : PlacedPart} {ps left : List PlacedPart}
     → Fills start (f ∷ fs) (p ∷ ps) b left → IsLeastPlacement (take (length (f ∷ fs)) (strings_of (p ∷ ps))) (f ∷ fs)
-before-least {f = f} {fs = fs} {p = p} {ps = ps} w =
-    subst (λ texts. IsLeastPlacement texts (f ∷ fs)) (sym (first-strings (length (f ∷ fs)) (p ∷ ps)))
-    (filled-least (λ is. cc) (filled-before w))
+before-least filled = search (rules, first-strings, filled-least, filled-before)
 
 before-expected : {b : State} {fs : List Field} {ps left : List PlacedPart} → Fills start fs ps b left
     → IsExpectedAfter (take (length fs) (strings_of ps)) b.expected
@@ -174,8 +162,7 @@ before-expected (Take {f = f} {fs = fs} found w) = (f, (fs, before-least (Take f
 
 before-fields : {b : State} {fs : List Field} {ps left : List PlacedPart} → Fills start fs ps b left
     → AreFieldsOf (take (length fs) (strings_of ps)) fs
-before-fields Stop = refl
-before-fields (Take found w) = before-least (Take found w)
+before-fields filled = search (rules, before-least)
 
 before-placed : {b : State} {fs : List Field} {ps left : List PlacedPart} → Fills start fs ps b left
     → (k : ℕ) → suc k ≤ length fs → HasPlacement (take (suc k) (strings_of ps))

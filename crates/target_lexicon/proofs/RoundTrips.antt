@@ -1,4 +1,5 @@
 -- The shown parts of a triple with a plain vendor parse as its normal step, if no special string is printed.
+use Rattle.lexicon_fields.proofs.LawOfNames.{NamesAreRead}
 use Rattle.std.proofs.lemmas.Bool.{not-false}
 use Rattle.target_lexicon.proofs.Common
 use Common.{Architecture, BinaryFormat, HasSystemOf, HidesNewlib, normal_step, reading_from, shows_vendor, vendor_name}
@@ -9,7 +10,7 @@ use Common.{PrintsTheEspIdfString, default_binary_format, implied_format, operat
 use Common.{ShowsOnlyNone, implies_newlib, is_same_format, omits_system, shows_unknowns, special_string}
 use Common.{◌&&◌, ◌||◌, Known, Refusal, Result, Unknown, Values, cons_if, false, is_some, rules, step_of, subst, values}
 use Common.{◌∙◌, ◌∷◌, ◌≡◌, ◌≢◌, ◌⊎◌, Bool, List, None, Some, [], ap, cond, inl, inr, not, refl, sym, true, ℕ}
-use Rattle.target_lexicon.proofs.NamesAcross.{NamesAreRead, environment_of-format, operating_system_of-environment}
+use Rattle.target_lexicon.proofs.NamesAcross.{environment_of-format, operating_system_of-environment}
 use Rattle.target_lexicon.proofs.NamesAcross.{operating_system_of-format, system_as_vendor, vendor_of-operating_system}
 use Rattle.target_lexicon.proofs.PrintingLemmas.{names_after_system, printed_names}
 use Rattle.target_lexicon.proofs.SpecialRows.{RowFacts, newlib_system, no_newlib, row_of_system, special_of_fields}
@@ -34,9 +35,7 @@ shown_by same too f g h = search rules
 -- the format is parsed back, shown or implied
 shown_or_implied : (t : Values) → cond (shows_binary_format t) t.binary_format (default_binary_format t)
     ≡ t.binary_format
-shown_or_implied t =
-    shown_by (is_same_format t.binary_format (default_binary_format t)) _ t.binary_format (default_binary_format t)
-    (is_same_format-is t.binary_format (default_binary_format t))
+shown_or_implied t = search (rules, shown_by, is_same_format-is)
 
 -- the fields that are unknown if both are shown as unknown
 pub are_unknown : (a : Architecture) (v : VendorValue) (s : OperatingSystem) (e : Environment) (f : BinaryFormat)
@@ -125,29 +124,14 @@ module _ (names : NamesAreRead) where
   hidden-read : (a : Architecture) (v : VendorValue) (s : OperatingSystem) (f : BinaryFormat) (b : Bool)
       → reading_from (Some field.Environment) (unread a v s) (cons_if b (binary_format_name f) [])
       ≡ Ok (values a v s environment.Unknown (cond (known_format f && b) f (implied_format a s environment.Unknown)))
-  hidden-read a v s binary_format.Unknown false = refl
-  hidden-read a v s f false = refl
-  hidden-read a v s binary_format.Unknown true =
-      rw (environment_of-format binary_format.Unknown, environment_of-format binary_format.Unknown) refl
-  hidden-read a v s f true =
-      rw (environment_of-format f, names.binary_format.reads_back f tt, names.binary_format.reads_back f tt) refl
+  hidden-read a v s f b = search (rules, environment_of-format)
 
   -- the same without a system
   alone-read : (a : Architecture) (v : VendorValue) (f : BinaryFormat) (b : Bool)
       → reading_from (Some field.OperatingSystem) (unread a v operating_system.Unknown)
       (cons_if b (binary_format_name f) []) ≡ Ok (values a v operating_system.Unknown environment.Unknown
       (cond (known_format f && b) f (implied_format a operating_system.Unknown environment.Unknown)))
-  alone-read a v binary_format.Unknown false = refl
-  alone-read a v f false = refl
-  alone-read a v binary_format.Unknown true =
-      rw (operating_system_of-format binary_format.Unknown, operating_system_of-format binary_format.Unknown) refl
-  alone-read a v f true =
-      rw (
-        operating_system_of-format f,
-        environment_of-format f,
-        names.binary_format.reads_back f tt,
-        names.binary_format.reads_back f tt,
-      ) refl
+  alone-read a v f b = search (rules, operating_system_of-format, environment_of-format)
 
   -- the parts that upstream shows after the system, parsed back
   abbrev ReadsAfter : Values → Values → Type 0
@@ -156,19 +140,7 @@ module _ (names : NamesAreRead) where
 
   row-read : (t : Values) (row : SpecialRow) → HasSystemOf row t → RowFacts row → t.environment ≡ environment.Newlib
       → ReadsAfter t (step_of (Some exceptions.HidesNewlib) t)
-  row-read t row is facts newlib =
-      rw (
-        newlib,
-        is.vendor,
-        is.operating_system,
-        facts.newlib,
-        facts.implied t.architecture environment.Newlib,
-        facts.operating_system,
-        and-false,
-      )
-      (hidden-read t.architecture _ _ t.binary_format _ ∙ rw (facts.implied t.architecture environment.Unknown)
-      (ap (λ f. Ok (values t.architecture (Known row.vendor) row.operating_system environment.Unknown f))
-      (shown_unless_elf t.binary_format)))
+  row-read t row is facts newlib = search (rules, and-false, hidden-read, shown_unless_elf)
 
   newlib-read : (t : Values) → HidesNewlib t → ReadsAfter t (step_of (Some exceptions.HidesNewlib) t)
   newlib-read t is = let at = row_of_system t is.system in row-read t at.0 at.1 at.2 is.environment
@@ -178,8 +150,7 @@ module _ (names : NamesAreRead) where
       (hidden : shows_unknowns (values a v s e f) ≡ false) where
     unknown-read : e ≡ environment.Unknown → reading_from (Some field.Environment) (unread a v s)
         (cons_if (shows_binary_format (values a v s e f)) (binary_format_name f) []) ≡ Ok (values a v s e f)
-    unknown-read is = rw is (hidden-read a v s f _ ∙ ap (λ x. Ok (values a v s environment.Unknown x))
-        (shown_unless_unknown f _ _ (rw is at hidden) (shown_or_implied (values a v s environment.Unknown f))))
+    unknown-read is = search (rules, hidden-read, shown_unless_unknown, shown_or_implied)
 
     outside-read : ¬ HidesNewlib (values a v s e f) → (b : Bool) → shows_environment (values a v s e f) ≡ b
         → reading_from (Some field.Environment) (unread a v s)
@@ -244,8 +215,7 @@ module _ (names : NamesAreRead) where
   module _ (a : Architecture) (omits : omits_system a ≡ true) where
     alone-step : (v : VendorValue) (f : BinaryFormat) → normal_step (alone a v environment.None f)
         ≡ values a v operating_system.None_ environment.Unknown f
-    alone-step v f = only_none-step (alone a v environment.None f)
-        (record { architecture = omits; operating_system = refl; environment = refl })
+    alone-step v f = search (rules, only_none-step)
 
     -- after an environment `none` the format is shown, unless it is unknown
     none-shown : (v : VendorValue) (f : BinaryFormat) → cond (known_format f && shows_binary_format
@@ -272,9 +242,7 @@ module _ (names : NamesAreRead) where
     alone-round : (v : VendorValue) (e : Environment) (f : BinaryFormat) → is_plain v ≡ true
         → shows_unknowns (alone a v e f) ≡ false → Rounds false (alone a v e f)
     unfolding shown_names
-    alone-round v e f plain hidden = rw omits (prefix a v _ _ _ plain
-        (λ h. absurd (let is = (hidden_vendor (alone a v e f) h).1 in cc))
-        (alone-reads v e f hidden))
+    alone-round v e f plain hidden = search (rules, prefix, hidden_vendor, alone-reads)
 
   module _ (a : Architecture) (v : VendorValue) (s : OperatingSystem) (e : Environment) (f : BinaryFormat)
       (plain : is_plain v ≡ true) (range : HasVersionInRange s)
@@ -290,9 +258,7 @@ module _ (names : NamesAreRead) where
     tail : (b : Bool) → shows_unknowns (values a v s e f) ≡ b → (b || shows_operating_system (values a v s e f)) ≡ true
         → reading_from (Some field.Environment) (unread a v s) (names_after_system b (values a v s e f))
         ≡ Ok (normal_step (values a v s e f))
-    tail true unknowns shown =
-        shown-read a v s e f true ∙ ap Ok (sym (unknowns-step (are_unknown a v s e f unknowns)))
-    tail false unknowns shown = tail-round a v s e f none unknowns apart (shown_system (values a v s e f) shown)
+    tail b unknowns shown = search (rules, shown-read, unknowns-step, are_unknown, tail-round, shown_system)
 
     parts_by : (b c : Bool) → shows_unknowns (values a v s e f) ≡ b
         → (b || shows_operating_system (values a v s e f)) ≡ c → Rounds b (values a v s e f)

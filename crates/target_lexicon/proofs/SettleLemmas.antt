@@ -1,10 +1,11 @@
 -- A second step changes no triple.
+use Rattle.target_lexicon.proofs.Common.{rules}
 use Rattle.target_lexicon.proofs.Common.{Architecture, BinaryFormat, HidesNewlib, RoundIsNormalStep, ap, special_string}
-use Rattle.target_lexicon.proofs.Common.{ComesBack, Espressif, VendorValue, normal_step, step_of, string_of, true≢false}
-use Rattle.target_lexicon.proofs.Common.{HasSpecialFields, HasVersionInRange, PrintsTheEspIdfString, RoundTripException}
-use Rattle.target_lexicon.proofs.Common.{Known, List, Option, ParsesAs, Some, Values, is_plain, refl, subst, values, ℕ}
-use Rattle.target_lexicon.proofs.SpecialRows.{fields_of_special, row_of_system, special_of_fields, special_system}
-use Rattle.target_lexicon.proofs.StepCases.{outside-fixed, special-own, step_cases}
+use Rattle.target_lexicon.proofs.Common.{ComesBack, Espressif, VendorValue, normal_step, step_of, string_of}
+use Rattle.target_lexicon.proofs.Common.{HasSpecialFields, HasVersionInRange, PrintsTheEspIdfString}
+use Rattle.target_lexicon.proofs.Common.{Known, List, ParsesAs, Some, Values, is_plain, refl, subst, values, ℕ}
+use Rattle.target_lexicon.proofs.SpecialRows.{fields_of_special, row_of_system, special_of_fields}
+use Rattle.target_lexicon.proofs.StepCases.{outside-fixed, step_cases}
 use Rattle.target_lexicon.proofs.{Common.◌≡◌, Common.sym, Common.true, UniqueReading.values_unique}
 use Rattle.target_lexicon.specs.FixedPoints.{CanonicalStringsAreKeys, IsPlainTriple, OneStepSettles, canonical_values}
 use Rattle.target_lexicon.specs.declared.exception.RoundTripException.TheVariants as exceptions
@@ -17,11 +18,8 @@ use Rattle.target_lexicon.specs.Values.binary_format
 -- with the environment and the format of special strings
 special-stays : (t : Values) → HasSpecialFields t → normal_step (step_of (Some exceptions.PrintsAsSpecial) t)
     ≡ step_of (Some exceptions.PrintsAsSpecial) t
-unfolding normal_step special_string
-special-stays t has =
-    let u = step_of (Some exceptions.PrintsAsSpecial) t in
-    ap (λ (found : Option RoundTripException). step_of found u)
-    (special-own u (fields_of_special u (special_of_fields t has)) (refl, refl))
+unfolding special_string normal_step
+special-stays t has = search rules
 
 esp_idf-stays : let u =
     values (architecture.Riscv32 riscv32.Riscv32imc) (Known Espressif) operating_system.Espidf environment.Newlib
@@ -49,10 +47,8 @@ newlib-stays t is =
 
 none-stays : (a : Architecture) (v : VendorValue) (f : BinaryFormat) → let u =
     values a v operating_system.None_ environment.Unknown f in normal_step u ≡ u
-none-stays a v f =
-    let u = values a v operating_system.None_ environment.Unknown f in
-    unknown-stays u refl (λ special. true≢false (special_system u special))
-    (λ esp. let of = ap (λ x. x.operating_system) esp in cc)
+unfolding special_string
+none-stays a v f = search (rules, unknown-stays)
 
 pub second_changes_none : OneStepSettles
 second_changes_none t = step_cases (λ u. normal_step u ≡ u) t

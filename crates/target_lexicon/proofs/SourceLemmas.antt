@@ -1,12 +1,11 @@
 -- The sources that are parts are in the string.
 use Rattle.std.proofs.lemmas.{Grind.common_steps, List.append-nil}
 use Rattle.target_lexicon.proofs.Common.{ArePartsOf, Field, IsRefusedAfter, List, NotGiven, PlacedPart, Refusal, Some}
-use Rattle.target_lexicon.proofs.Common.{SourceValues, Vendor, [], ap, append_assoc, arith, cases_Bool, dash}
-use Rattle.target_lexicon.proofs.Common.{field_number, inl, inr, join_with_byte, length, length-append, nat_eq}
-use Rattle.target_lexicon.proofs.Common.{placed_from, refl, slice_get, sources_at, subst, suc, sym, zero, ℕ, ◌++◌, ◌+◌}
+use Rattle.target_lexicon.proofs.Common.{SourceValues, [], ap, append_assoc, arith, cases_Bool, dash}
+use Rattle.target_lexicon.proofs.Common.{join_with_byte, length, length-append}
+use Rattle.target_lexicon.proofs.Common.{placed_from, slice_get, sources_at, subst, suc, sym, zero, ℕ, ◌++◌, ◌+◌}
 use Rattle.target_lexicon.{proofs.Common.◌∙◌, proofs.Common.◌∷◌, proofs.Common.◌≡◌, specs.Explanation.AreInString}
 use Rattle.target_lexicon.specs.Explanation.{IsInString, IsSourceInString, SourceValue, part_from, source_at}
-use Rattle.target_lexicon.specs.Field.{Architecture, BinaryFormat, Environment, OperatingSystem}
 
 -- the parts, joined by dashes, are the end of the string from `start` on; there may be none
 abbrev AreAt : List ℕ → ℕ → List (List ℕ) → Type 0
@@ -47,8 +46,7 @@ all-in text start (p ∷ ps) at = let first = first-in text start p ps at in
     (first.0, all-in text (start + length p + 1) ps first.1)
 
 pub placed-in : (text : List ℕ) (parts : List (List ℕ)) → ArePartsOf text parts → AreIn text (placed_from 0 parts)
-placed-in text [] are = tt
-placed-in text (p ∷ ps) are = all-in text 0 (p ∷ ps) ([], refl, sym are.joined)
+placed-in text parts are = grind (arith, all-in)
 
 source-in : (text : List ℕ) (unfilled : SourceValue) (f : Field) (ps : List PlacedPart) (gs : List Field)
     → IsSourceInString text unfilled → AreIn text ps
@@ -56,10 +54,7 @@ source-in : (text : List ℕ) (unfilled : SourceValue) (f : Field) (ps : List Pl
 source-in text unfilled f [] gs none are = none
 source-in text unfilled f (p ∷ ps) [] none are = none
 source-in text unfilled f (p ∷ ps) (g ∷ gs) none are =
-    elim (cases_Bool (nat_eq (field_number g) (field_number f))) [
-      | inl here ↦ rw here are.0
-      | inr later ↦ rw later (source-in text unfilled f ps gs none are.1)
-    ]
+    grind (arith, (source-in text unfilled f ps gs none are.1), cases_Bool)
 
 get-in : (text : List ℕ) (ps : List PlacedPart) (k : ℕ) (q : PlacedPart) → AreIn text ps → slice_get ps k ≡ Some q
     → IsInString text q
@@ -70,13 +65,7 @@ get-in text (p ∷ ps) (suc k) q are is = get-in text ps k q are.1 is
 pub all-sources-in : (text : List ℕ) (unfilled : SourceValue) (ps : List PlacedPart) (gs : List Field)
     → IsSourceInString text unfilled → AreIn text ps
     → AreInString text (sources_at unfilled ps gs)
-all-sources-in text unfilled ps gs none are = record {
-  architecture = source-in text NotGiven Architecture ps gs tt are;
-  vendor = source-in text NotGiven Vendor ps gs tt are;
-  operating_system = source-in text NotGiven OperatingSystem ps gs tt are;
-  environment = source-in text NotGiven Environment ps gs tt are;
-  binary_format = source-in text unfilled BinaryFormat ps gs none are;
-}
+all-sources-in text unfilled ps gs none are = grind (arith, source-in)
 
 pub refused-in : (text : List ℕ) (x : Refusal) (s : SourceValues) (q : PlacedPart) → IsRefusedAfter text x s q
     → AreInString text s × IsInString text q

@@ -128,10 +128,6 @@ pub system_of_newlib : (t : Values) → implies_newlib t.vendor t.operating_syst
     → SomeRow (λ row. HasSystemOf row t) special_rows
 system_of_newlib t is = search rules
 
-pub newlib_of_system : (t : Values) → SomeRow (λ row. HasSystemOf row t) special_rows
-    → implies_newlib t.vendor t.operating_system ≡ true
-newlib_of_system t has = search rules
-
 -- the system of a row is a known one
 
 pub special_system : (t : Values) → HasSpecialFields t → is_none_or_unknown t.operating_system ≡ false

@@ -1,9 +1,8 @@
 -- A string has at most one outcome.
-use Rattle.target_lexicon.proofs.Common
-use Common.{HasPlacement, architecture_of, binary_format_of, default_binary_format, environment_of, operating_system_of}
-use Common.{ArePartsOf, IsRefusal, IsRefusedAs, MatchOption, PartsParseAs, expected_after, refusal_with, special_values}
-use Common.{Field, HoldsParts, IsValueOf, Option, ParsesAs, Refusal, Values, last_field, parts_of, slice_get, vendor_of}
-use Common.{List, None, Some, [], ap, refl, rules, subst, sym, take, ℕ, ◌∙◌, ◌∷◌, ◌≡◌}
+use Rattle.target_lexicon.proofs.Common.{ArePartsOf, Field, HasPlacement, HoldsParts, IsRefusal, IsRefusedAs, IsValueOf}
+use Rattle.target_lexicon.proofs.Common.{List, MatchOption, None, Option, ParsesAs, PartsParseAs, Refusal, Some, Values}
+use Rattle.target_lexicon.proofs.Common.{[], ap, expected_after, last_field, parts_of, refusal_with, rules, slice_get}
+use Rattle.target_lexicon.proofs.Common.{special_values, subst, sym, take, ℕ, ◌∙◌, ◌∷◌, ◌≡◌}
 use Rattle.target_lexicon.proofs.{GreedyPlacement.least-unique, GreedyPlacement.placement_prefix, PartLemmas.parts-only}
 use Rattle.target_lexicon.{proofs.SameValues.same_values, specs.Parsing.IsExpectedAfter, specs.Parsing.IsRefused}
 
@@ -13,20 +12,10 @@ same_value find d e o x y same h k = search rules
 
 same_held : (parts : List (List ℕ)) (fields : List Field) (t u : Values) → HoldsParts parts fields t
     → HoldsParts parts fields u → t ≡ u
-same_held parts fields t u h k =
-    let a = same_value architecture_of _ _ _ t.architecture u.architecture refl h.architecture k.architecture in
-    let v = same_value vendor_of _ _ _ t.vendor u.vendor refl h.vendor k.vendor in
-    let s = same_value operating_system_of _ _ _ t.operating_system u.operating_system refl h.operating_system
-    k.operating_system in
-    let e = same_value environment_of _ _ _ t.environment u.environment refl h.environment k.environment in
-    let i : default_binary_format t ≡ default_binary_format u = cc in
-    let f = same_value binary_format_of _ _ _ t.binary_format u.binary_format i h.binary_format k.binary_format in
-    same_values t u a v s e f
+same_held parts fields t u h k = search (rules, same_value, same_values)
 
 same_least : (parts : List (List ℕ)) (t u : Values) → PartsParseAs parts t → PartsParseAs parts u → t ≡ u
-same_least parts t u (fs, least, holds) (gs, other, held) =
-    same_held parts gs t u (subst (λ fields. HoldsParts parts fields t) (least-unique parts fs gs least other) holds)
-    held
+same_least parts t u first second = search (rules, same_held, least-unique)
 
 -- a string reads as at most one triple
 pub values_unique : (text : List ℕ) (t u : Values) → ParsesAs text t → ParsesAs text u → t ≡ u

@@ -35,9 +35,7 @@ unknowns_shown i other = search rules
 
 other_text : (t : Values) → HasUnimpliedUnknowns t → string_of t ≢ upstream_string_of t
 unfolding string_of upstream_string_of
-other_text t is same =
-    other_names t.architecture t.vendor t.operating_system
-    (rw (is.special, is.environment, is.binary_format, unknowns_shown _ (rw (is.environment) at is.implied)) at same)
+other_text t is same = search (rules, other_names, unknowns_shown)
 
 -- the triples for which this is so
 shows_unknowns_by : (t : Values) (special : Option (List ℕ)) (b : Bool) → special_string t ≡ special

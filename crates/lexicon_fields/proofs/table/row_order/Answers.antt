@@ -27,7 +27,7 @@ same_key : (i : ℕ) (text : List ℕ) (key : ℕ) → i < row_count → key ≡
 same_key i text key below is le ge = omega (arith, key-is i below, is, le, ge)
 
 not_both_long : {m n : ℕ} → (m ≤ 8) ⊎ ((8 < m) × (n ≤ 8)) → 8 < m → 8 < n → ⊥
-not_both_long h1 p q = grind arith
+not_both_long either p q = grind arith
 
 pub returns-then-own-text-clause-order : goal.returns-then-own-text-clause-order
 unfolding row_texts

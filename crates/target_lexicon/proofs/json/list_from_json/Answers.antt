@@ -1,5 +1,5 @@
 -- The loop has the triples of the elements so far; the first element that is refused ends it.
-use Rattle.target_lexicon.proofs.Common.{◌≡◌, arith, map, true, is_plain, ElementsParseAs, values_of}
+use Rattle.target_lexicon.proofs.Common.{◌≡◌, arith, true, is_plain}
 use Rattle.lexicon_fields.specs.Vendor.{OwnsCustomString, vendor_value}
 use Rattle.target_lexicon.proofs.Elements.{at_array, elements_read, elements_begun, elements_read-more}
 use Rattle.target_lexicon.proofs.Elements.{elements_refused, all_triples-more}
@@ -7,8 +7,7 @@ use Rattle.target_lexicon.proofs.json.list_from_json.Goals as goal
 
 pub returns-then-is_err-clause-err : goal.returns-then-is_err-clause-err
 returns-then-is_err-clause-err c =
-    at_array _ _ _ _ c.in-Some.ensures c.deref-element-items.ensures.value
-    (elements_begun _ c.loop-i.i _ _ _ (omega arith) c.element-item.is c.loop-i.invariant.read c.in-Ok.ensures.ok)
+    grind (arith, at_array, c.in-Some.ensures, c.deref-element-items.ensures.value, elements_begun, c.in-Ok.ensures.ok)
 
 pub returns-in-Err-clause-err : goal.returns-in-Err-clause-err
 returns-in-Err-clause-err c =
@@ -31,12 +30,4 @@ loop-i-preserved c =
     }
 
 pub returns : goal.returns
-returns c = record {
-  ok =
-      at_array (λ elements. ElementsParseAs elements (map values_of c.loop-i.triples.items)) _ _ _ c.in-Some.ensures
-      c.deref-element-items.ensures.value
-      (elements_read _ c.loop-i.i _ c.loop-i-test.false c.loop-i.invariant.read);
-  owned = c.loop-i.invariant.owned;
-  plain = c.loop-i.invariant.plain;
-  err = tt;
-}
+returns c = grind (arith, at_array, c.in-Some.ensures, c.deref-element-items.ensures.value, elements_read)

@@ -1,9 +1,9 @@
 -- Two explanations are equal if their outcomes and all five sources are, and each of these comparisons decides
 -- equality.
-use Rattle.target_lexicon.proofs.Common.{◌↔◌, ◌≡◌, Bool, Err, Ok, Result, ap, rules, Decides-and, Decides-like, IsTrue}
-use Rattle.target_lexicon.proofs.Common.{SourceValues, sources_of, Values, values_of_ref, TripleRef}
+use Rattle.target_lexicon.proofs.Common.{◌↔◌, ◌≡◌, Bool, Result, ap, rules, Decides-and, Decides-like, IsTrue}
+use Rattle.target_lexicon.proofs.Common.{SourceValues, sources_of, values_of_ref, TripleRef}
 use Rattle.std.specs.Result.{result_eq}
-use Rattle.target_lexicon.specs.ValuesRef.{PlacedRefusal, placed_outcome, placed_refusal}
+use Rattle.target_lexicon.specs.ValuesRef.{placed_outcome, placed_refusal}
 use Rattle.target_lexicon.specs.{declared.refusal.Refusal.Refusal, Explanation.source_values}
 use Rattle.target_lexicon.proofs.laws.explanations_are_equal_by_value.Goals as goal
 
@@ -33,25 +33,12 @@ returns-clause-sources c x y =
     (Decides-and _ _ (source x.environment y.environment)
     (source x.binary_format y.binary_format)))))
 
-abbrev ok_value : Values → Result Values PlacedRefusal → Values
-ok_value v (Ok w) = w
-ok_value v (Err w) = v
-
-abbrev err_value : PlacedRefusal → Result Values PlacedRefusal → PlacedRefusal
-err_value v (Ok w) = v
-err_value v (Err w) = w
-
 module _ (eq_triple : TripleRef → TripleRef → Bool) (eq_refusal : Refusal → Refusal → Bool)
     (triples : (x y : TripleRef) → IsTrue (eq_triple x y) ↔ (values_of_ref x ≡ values_of_ref y))
     (refusals : (x y : Refusal) → IsTrue (eq_refusal x y) ↔ (placed_refusal x ≡ placed_refusal y)) where
   outcomes : (x y : Result TripleRef Refusal) → IsTrue (result_eq eq_triple eq_refusal x y)
       ↔ (placed_outcome x ≡ placed_outcome y)
-  outcomes (Ok x) (Ok y) =
-      Decides-like _ (λ same. ap Ok same) (λ same. ap (ok_value (values_of_ref x)) same) (triples x y)
-  outcomes (Err x) (Err y) =
-      Decides-like _ (λ same. ap Err same) (λ same. ap (err_value (placed_refusal x)) same) (refusals x y)
-  outcomes (Ok x) (Err y) = ((λ same. cc), (λ same. cc))
-  outcomes (Err x) (Ok y) = ((λ same. cc), (λ same. cc))
+  outcomes x y = search (rules, Decides-like)
 
 pub returns-clause-explanation : goal.returns-clause-explanation
 returns-clause-explanation c x y =

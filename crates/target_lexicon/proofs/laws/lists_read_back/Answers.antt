@@ -1,4 +1,4 @@
-use Rattle.target_lexicon.proofs.Common.{◌∙◌, ◌∷◌, ◌≡◌, All, List, [], ap, arith, map, refl, subst, suc, sym, zero}
+use Rattle.target_lexicon.proofs.Common.{◌∙◌, ◌∷◌, ◌≡◌, All, List, [], ap, arith, map, refl, suc, zero}
 use Rattle.target_lexicon.proofs.Common.{ElementsParseAs, ComesBack, EveryStringHasOneOutcome, string_of, Values}
 use Rattle.serde_json.specs.View.{items_of}
 use Rattle.target_lexicon.specs.Json.{json_of}
@@ -18,7 +18,4 @@ list-only one (t ∷ ts) (u ∷ us) back read =
 list-only one _ _ back read = absurd read
 
 pub returns : goal.returns
-returns c = λ ts us back. (
-  list-only c.every_string_has_one_outcome.ensures ts us back,
-  λ same. subst (λ (vs : List Values). ElementsParseAs (items_of (map json_of ts)) vs) (sym same) (list-reads ts back),
-)
+returns c = grind (arith, list-only, c.every_string_has_one_outcome.ensures, list-reads)

@@ -1,25 +1,20 @@
 -- The parts of a string are read one after the other, each from the dash before it.
-use Rattle.target_lexicon.proofs.Common.{◌+◌, ◌-◌, ◌∙◌, ◌∷◌, ◌≡◌, ◌≤◌, List, None, Option, Some, [], ap, arith, length}
-use Rattle.target_lexicon.proofs.Common.{refl, rules, subst, sym, ℕ, option_map_or, IfSome, IsRefusedAfter, PlacedPart}
-use Rattle.target_lexicon.proofs.Common.{placed_from, sources_of, Field, ParsesAs, parts_of, refusal_with}
-use Rattle.target_lexicon.proofs.Common.{refusal_value, values_of_ref}
-use Rattle.std.specs.{Borrow.Bor}
-use Rattle.target_lexicon.specs.Explanation.{AreInString, AreSourcesOf, part_from, part_value}
-use Rattle.target_lexicon.specs.{declared.reading.Reading.Reading, Parsing.parts_after, Private.rest_parts}
-use Rattle.target_lexicon.proofs.GreedyPlacement.{State, Stop}
-use Rattle.target_lexicon.proofs.ReadParts.{HasRead, state_of, taken-read, text-read, text-refused}
-use Rattle.target_lexicon.proofs.SourceLemmas.{refused-in}
+use Rattle.std.specs.Borrow.{Bor}
+use Rattle.target_lexicon.proofs.Common.{Field, IfSome, IsRefusedAfter, List, Option, ParsesAs, PlacedPart, Some, []}
+use Rattle.target_lexicon.proofs.Common.{ap, arith, length, parts_of, placed_from, refusal_value, refusal_with, rules}
+use Rattle.target_lexicon.proofs.Common.{sources_of, subst, sym, values_of_ref, ℕ, ◌+◌, ◌-◌, ◌∷◌, ◌≡◌, ◌≤◌}
+use Rattle.target_lexicon.proofs.{GreedyPlacement.State, GreedyPlacement.Stop, ReadParts.HasRead, ReadParts.state_of}
+use Rattle.target_lexicon.proofs.ReadParts.{taken-read, text-read, text-refused}
+use Rattle.target_lexicon.{proofs.SourceLemmas.refused-in, specs.Explanation.AreInString}
+use Rattle.target_lexicon.specs.Explanation.{AreSourcesOf, part_from, part_value}
+use Rattle.target_lexicon.specs.{Parsing.parts_after, Private.rest_parts, declared.reading.Reading.Reading}
 use Rattle.target_lexicon.proofs.parse.explain.Goals as goal
 
 -- the parts of what follows a dash begin after it
 rest-placed : (text left name : List ℕ) (others : Option (Bor (List ℕ))) → length left ≤ length text
     → IfSome others (λ rest. length left ≡ length name + 1 + length rest.now)
     → placed_from (length text - length left + length name + 1) (parts_after others) ≡ rest_parts text others
-rest-placed text left name None within size = refl
-rest-placed text left name (Some rest) within size =
-    let same : length text - length left + length name + 1 ≡ length text - length rest.now =
-    omega (arith, within, size) in
-    ap (λ start. placed_from start (parts_of rest.now)) same
+rest-placed text left name others within size = search rules
 
 -- what is left, if its first part is this one
 left-is : (text left name : List ℕ) (others : Option (Bor (List ℕ))) → length left ≤ length text
@@ -27,20 +22,13 @@ left-is : (text left name : List ℕ) (others : Option (Bor (List ℕ))) → len
     → IfSome others (λ rest. length left ≡ length name + 1 + length rest.now)
     → placed_from (length text - length left) (parts_of left) ≡ part_from (length text - length left) name
     ∷ rest_parts text others
-left-is text left name others within parts size =
-    ap (placed_from (length text - length left)) parts
-    ∙ ap (λ (ps : List PlacedPart). part_from (length text - length left) name ∷ ps)
-    (rest-placed text left name others within size)
+left-is text left name others within parts size = search (rules, rest-placed)
 
 rest-within : (text left name : List ℕ) (others : Option (Bor (List ℕ))) (rest : Bor (List ℕ))
     → length left ≤ length text
     → IfSome others (λ rest. length left ≡ length name + 1 + length rest.now) → others ≡ Some rest
     → length rest.now ≤ length text
-rest-within text left name None rest within size is = absurd cc
-rest-within text left name (Some other) rest within size is =
-    let same : length other.now ≡ length rest.now =
-    ap (λ (found : Option (Bor (List ℕ))). length (option_map_or (λ (it : Bor (List ℕ)). it.now) found [])) is in
-    omega (arith, within, size, same)
+rest-within text left name others rest within size is = search rules
 
 -- the first part of what is left
 part-left : (text name : List ℕ) (b : State) (rest : Option (Bor (List ℕ))) (left : Bor (List ℕ))
@@ -49,8 +37,7 @@ part-left : (text name : List ℕ) (b : State) (rest : Option (Bor (List ℕ))) 
     → IfSome others (λ rest. length left.now ≡ length name + 1 + length rest.now)
     → HasRead text b (rest_parts text rest)
     → HasRead text b (part_from (length text - length left.now) name ∷ rest_parts text others)
-part-left text name b rest left others is within parts size on =
-    subst (HasRead text b) (ap (rest_parts text) is ∙ left-is text left.now name others within parts size) on
+part-left text name b rest left others is within parts size on = search (rules, left-is)
 
 pub loop-rest-init : goal.loop-rest-init
 loop-rest-init c =

@@ -1,7 +1,7 @@
 -- Six pieces are written one after the other, and what was written is these pieces so far.
 use Rattle.lexicon_fields.specs.OperatingSystem.{version_suffix}
-use Rattle.std.{proofs.Output.has_written_styled_nil, specs.Fmt.HasWrittenStyled, specs.Fmt.IsDefaultSpec}
-use Rattle.target_lexicon.proofs.Common.{has_written_styled_append, rules, subst, sym}
+use Rattle.std.{proofs.Output.has_written_styled_nil, specs.Fmt.HasWrittenStyled}
+use Rattle.target_lexicon.proofs.Common.{has_written_styled_append, rules}
 use Rattle.target_lexicon.proofs.display.PiecesDisplay.fmt.Goals.{in-Some+in_ok-write_str-2, in_default}
 use Rattle.target_lexicon.proofs.display.PiecesDisplay.fmt.Goals as goal
 
@@ -25,12 +25,4 @@ returns-clause-styled g c = λ flush ok.
     environment) binary_format
 
 pub returns-clause-writes : goal.returns-clause-writes
-returns-clause-writes g c = λ plain ok.
-    let written = returns-clause-styled g c plain.flush ok in
-    record {
-      wrote = written.wrote;
-      plain = record {
-        bare = subst IsDefaultSpec (sym written.spec) plain.bare;
-        flush = written.flush;
-      };
-    }
+returns-clause-writes g c = search (rules, returns-clause-styled)

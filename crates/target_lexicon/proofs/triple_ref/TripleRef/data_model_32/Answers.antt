@@ -1,4 +1,4 @@
-use Rattle.target_lexicon.proofs.Common.{◌∙◌, None, rules, sym}
+use Rattle.target_lexicon.proofs.Common.{◌∙◌, rules, sym}
 use Rattle.target_lexicon.proofs.ModelsKnown.{wasm_32-is, convention_32-is, no_convention_32}
 use Rattle.target_lexicon.proofs.triple_ref.TripleRef.data_model_32.Goals as goal
 
@@ -6,19 +6,10 @@ pub returns-in-Wasm32 : goal.returns-in-Wasm32
 returns-in-Wasm32 c = wasm_32-is _ _ (sym c.has_ilp32.ensures ∙ c.if-has_ilp32.false) c.in-Wasm32.is
 
 pub returns-in_err-convention-in_default : goal.returns-in_err-convention-in_default
-returns-in_err-convention-in_default c =
-    let none = convention_32-is _ _ None (sym c.has_ilp32.ensures ∙ c.if-has_ilp32.false) c.in_default.not-Wasm32
-    c.in_err-convention-in_default.ensures in
-    search (rules, none)
+returns-in_err-convention-in_default c = search (rules, convention_32-is)
 
 pub returns-in-SystemV : goal.returns-in-SystemV
-returns-in-SystemV c =
-    let found = convention_32-is _ _ _ (sym c.has_ilp32.ensures ∙ c.if-has_ilp32.false) c.in_default.not-Wasm32
-    c.in_ok-convention-in_default.ensures in
-    rw c.in-SystemV.is at found
+returns-in-SystemV c = search (rules, convention_32-is)
 
 pub returns-in_default-convention : goal.returns-in_default-convention
-returns-in_default-convention c =
-    convention_32-is _ _ _ (sym c.has_ilp32.ensures ∙ c.if-has_ilp32.false) c.in_default.not-Wasm32
-    c.in_ok-convention-in_default.ensures
-    ∙ no_convention_32 _ c.in_default-convention.not-SystemV
+returns-in_default-convention c = search (rules, convention_32-is, no_convention_32)
