@@ -10,7 +10,7 @@ from pathlib import Path
 
 import mir
 from manifest import check_manifest
-from mir_grammar import ITEM, Unknown, read_hir
+from mir_grammar import ITEM, Unknown, outside, read_hir
 from reading import Untranslated
 
 HERE = Path(__file__).parent
@@ -78,7 +78,7 @@ def rustc(folder, features, older=False, *words, root="src/lib.rs"):
         raise Untranslated(f"a variable of the environment, {min(names)}, is read when the crate is compiled")
     files = {Path("/", it.replace("\\ ", " ")) for it in re.findall("^(\\S.*):$", read, re.M)}
     for it in files - {Path(out, "host.rs"), folder / "build.rs"}:
-        if not Path(os.path.normpath(it)).is_relative_to(folder / "src"):
+        if not re.fullmatch(r"[\w/]+\.rs", os.path.relpath(it, folder / "src")):
             raise Untranslated(f"the crate is compiled of {it}")
         text = it.read_text(encoding="utf-8").replace('#[cfg(feature = "serde_support")]\nmod serde;', "")
         if others := [line for line in re.findall(r".*\bcfg.*", text) if not re.fullmatch(CONDITION, line.strip())]:
@@ -109,6 +109,7 @@ def same_without_alloc(root, crate, known):
     folder = root.resolve() / "packages/rust"
     main = rustc(folder, [])
     same(main, rustc(folder, [], True, "-Cdebug-assertions=off"), "without `alloc`, as for an older rustc")
+    same_in_build_script(folder, [], main)
     other = crate_of(main, known)
     if unknown := {*all_of(other)} - {*LEFT_OUT}:
         raise Untranslated(f"{min(unknown)} isn't known without the feature `alloc`")
@@ -130,10 +131,10 @@ def version():
 def items(text):
     """The names and the whole text of the functions and constants of MIR, in order, wherever their files are."""
     statics = dict(re.findall(r"^(alloc\d+) \(static: ([\w:]+),", text, re.M))
-    text = re.sub(r"\balloc\d+\b", lambda m: statics.get(m[0], "alloc"), text)
-    text = re.sub(r"\b(core|alloc|std)::", "std::", text)
-    text = re.sub(r"<static\(DefId\(0:\d+ ~ \w+\[\w+\]", "<static(DefId(", text)  # a hash of rustc's flags, too
-    text = re.sub(r"(<impl at |\{closure@).*?\bsrc/", r"\1src/", text)
+    text = outside(r"\balloc\d+\b", lambda m: statics.get(m[0], "alloc"), text)
+    text = outside(r"\b(?:core|alloc|std)::", lambda m: "std::", text)
+    text = outside(r"<static\(DefId\(0:\d+ ~ \w+\[\w+\]", lambda m: "<static(DefId(", text)  # a hash of rustc's flags
+    text = outside(r"(<impl at |\{closure@).*?\bsrc/", lambda m: m[1] + "src/", text)
     return [(m["name"] or m["head"], m[0]) for m in re.finditer(ITEM, text)]
 
 
@@ -151,11 +152,11 @@ def same(main, other, where):
         raise Untranslated(f"{where}, rustc compiles another item: {others[0].splitlines()[0][:200]}")
 
 
-def same_in_build_script(folder, main):
+def same_in_build_script(folder, features, main):
     """That the functions that the build script has of the crate are the crate's: they could print for cargo."""
     known = {text for _, text in items(main[0])}
-    written = rustc(folder, ["alloc"], True, "-Cdebug-assertions=off", root="build.rs")[0]
-    for name, text in items(re.sub(r" = (<impl proved::triple::Triple>::host\(\))", r" = host::\1", written)):
+    written = rustc(folder, features, True, "-Cdebug-assertions=off", root="build.rs")[0]
+    for name, text in items(outside(r" = (?=<impl proved::triple::Triple>::host\(\))", lambda m: " = host::", written)):
         if re.match(r"(compat|fields|hash|proved|search)::", name) and text not in known:
             raise Untranslated(f"the build script has another function {name}")
 
@@ -167,7 +168,8 @@ def source(root, known):
     main = rustc(folder, ["alloc"])
     for features, older, *words in OTHERS:
         same(main, rustc(folder, features, older, *words), f"with {' '.join([*features, *words])}, older: {older}")
-    same_in_build_script(folder, main)
+        if older:  # these are all sets of features with `alloc`
+            same_in_build_script(folder, features, main)
     return crate_of(main, known)
 
 

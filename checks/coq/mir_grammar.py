@@ -13,6 +13,11 @@ class Unknown(Untranslated):
 OPEN, CLOSE = "([{<", ")]}>"
 
 
+def outside(pattern, to, text):
+    """Replaces what has a pattern, outside of strings."""
+    return re.sub(rf"""'"'|"(?:[^"\\\n]|\\.)*"|{pattern}""", lambda m: m[0] if m[0][0] in "'\"" else to(m), text)
+
+
 def depths(text):
     """Each character's index, and how many brackets are open before it; what strings hold is left out."""
     depth, quoted, i = 0, False, 0
