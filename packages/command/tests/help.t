@@ -58,9 +58,9 @@ A word that people try has the right one, and the subcommands follow; nothing is
   ! For `--from` use `what`, or `check`, `facts`, `matrix`, `settle` or `translate`, which have it
   $ said facts --field pointer_width avr
   ! For `--field` use `--get` of `facts`
-  $ for fact in os endianness,pointer_width; do said facts --get $fact avr; done
+  $ for fact in os linker; do said facts --get $fact avr; done
   ! For `os` use `operating_system`
-  ! For `endianness,pointer_width` use `--json`, which has all facts: `--get` writes one
+  ! For `linker` use `object_format`
 
 ## The manual and the completions have the commands and their options, and the help of each has an example
 

@@ -116,16 +116,16 @@ A warning is a member of the object:
   # all\t (esc)
   avr\tavr-unknown-unknown (esc)
 
-One fact of each target:
+Some facts of each target:
 
-  $ target-lexicon facts --get pointer_width x86_64-linux avr hexagon wasm32-wasip1
+  $ target-lexicon facts --get pointer_width x86_64-linux avr
   64
   16
-  32
-  32
-  $ target-lexicon facts --get c_library avr x86_64-linux-gnu
-  
-  glibc
+  $ target-lexicon facts --get version,c_library,is_unix avr x86_64-linux-gnu
+  \t\tfalse (esc)
+  \tglibc\ttrue (esc)
+  $ target-lexicon facts --get c_library --get vendor --json avr | jq -c '.[] | keys'
+  ["c_library","file","line","target","vendor"]
 
 ## A matrix
 

@@ -3,7 +3,7 @@ use super::*;
 use crate::arguments::wrapped;
 use crate::fields::{name_of, version};
 use clap::builder::PossibleValuesParser;
-use clap::Arg;
+use clap::{Arg, ArgAction};
 use target_lexicon::{Architecture, Field, Named as _, PointerWidth};
 
 pub fn command() -> Command {
@@ -16,12 +16,14 @@ pub fn command() -> Command {
     .arg(
         Arg::new("get")
             .long("get")
-            .value_name("FACT")
+            .value_name("FACTS")
+            .action(ArgAction::Append)
+            .value_delimiter(',')
             .value_parser(PossibleValuesParser::new(keys()))
             .hide_possible_values(true)
-            .help("Write this one only: its value, or an empty line where it has none")
+            .help("Write only the values of these, with tabs between; nothing for one that has none")
             .long_help(wrapped(&format!(
-                "Write this one only: its value, or an empty line where it has none. It is one of {}",
+                "Write only the values of these, with commas between here and tabs there; nothing for one that has none. They are of {}",
                 keys().collect::<Vec<_>>().join(", ")
             ))),
     )
@@ -29,20 +31,20 @@ pub fn command() -> Command {
 
 /// The names of all facts.
 fn keys() -> impl Iterator<Item = &'static str> {
-    let unknown = FactsOf { text: "", triple: TripleRef::unknown(), key: None };
+    let unknown = FactsOf { text: "", triple: TripleRef::unknown(), keys: Vec::new() };
     let keys: Vec<_> = unknown.members().into_iter().map(|it| it.0).collect();
     keys.into_iter()
 }
 
 pub struct Facts {
-    /// The one that is asked for.
-    pub key: Option<String>,
+    /// Those that are asked for; none, if all are.
+    pub keys: Vec<String>,
 }
 
 impl Call for Facts {
     fn answer<'a>(&mut self, target: Target<'a>, reader: &Reader) -> Outcome<'a> {
         let (triple, _) = reader.meaning(target.text)?;
-        Ok(FactsOf { text: target.text, triple, key: self.key.clone() }.into())
+        Ok(FactsOf { text: target.text, triple, keys: self.keys.clone() }.into())
     }
 
     fn with_names(&self) -> String {
@@ -53,19 +55,23 @@ impl Call for Facts {
 struct FactsOf<'a> {
     text: &'a str,
     triple: TripleRef<'a>,
-    key: Option<String>,
+    keys: Vec<String>,
 }
 
 impl Answer for FactsOf<'_> {
     fn write(&self, page: &mut Page<'_>) -> io::Result<()> {
         let facts = self.members();
-        if let (Some(_), [(_, answer)]) = (&self.key, &facts[..]) {
-            return match answer {
-                Json::Text(text) => show!(page, visible(text), "\n"),
-                Json::Bool(is_so) => show!(page, visible(is_so), "\n"),
-                Json::Number(number) => show!(page, *number, "\n"),
-                _ => page.put("\n"),
-            };
+        for (key, left) in self.keys.iter().zip((0..self.keys.len()).rev()) {
+            match facts.iter().find(|it| it.0 == key) {
+                Some((_, Json::Text(text))) => page.put(visible(text))?,
+                Some((_, Json::Bool(is_so))) => page.put(visible(is_so))?,
+                Some((_, Json::Number(number))) => page.put(*number)?,
+                _ => {}
+            }
+            page.put(if left > 0 { "\t" } else { "\n" })?;
+        }
+        if !self.keys.is_empty() {
+            return Ok(());
         }
         let width = facts.iter().map(|(key, _)| key.len()).max().unwrap_or(0);
         show!(page, visible(self.text), "\n")?;
@@ -131,7 +137,7 @@ impl Answer for FactsOf<'_> {
             ("printed", triple.to_string().into()),
             ("canonical", canonical(*triple).to_string().into()),
         ]);
-        members.retain(|(key, _)| self.key.as_ref().map_or(true, |it| it == key));
+        members.retain(|(key, _)| self.keys.is_empty() || self.keys.iter().any(|it| it == key));
         members
     }
 }

@@ -94,7 +94,10 @@ pub fn commands() -> [Command; 10] {
 pub fn run(name: &str, arguments: &ArgMatches) -> Result<i32, Fault> {
     let mut call: Box<dyn Call> = match name {
         "explain" => Box::new(explain::Explain),
-        "facts" => Box::new(facts::Facts { key: arguments.get_one("get").cloned() }),
+        "facts" => {
+            let keys = arguments.get_many("get").unwrap_or_default().cloned().collect();
+            Box::new(facts::Facts { keys })
+        }
         "settle" => Box::new(settle::Settle { shows_changes: arguments.get_flag("changes") }),
         "check" => Box::new(check::Check),
         "matrix" => Box::new(matrix::Matrix::new(arguments)),
