@@ -350,7 +350,8 @@ enum lexicon_status lexicon_check(const char *text, size_t text_size, struct lex
 
 /* Why a string is refused, from the string and the error that parsing or reading it gave, in three lines, of which the
    first says it by itself. There is no line feed at the end. What isn't printable ASCII is escaped, as \u{1b}, and
-   bytes that are no character are \u{fffd}:
+   bytes that are no character are \u{fffd}. Of the refused part, and of what is before and after it, up to 200
+   characters are shown:
 
        Unrecognized operating system: linx
          x86_64-pc-linx

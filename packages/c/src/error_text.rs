@@ -4,7 +4,7 @@ use crate::text::Text;
 use crate::{Status, NAME_WITHOUT_TRIPLE, NEEDS_C_LIBRARY, NOT_UTF8, NO_SUCH_VALUE, TRIPLE_WITHOUT_NAME, UNKNOWN_NAME};
 use core::fmt::Write;
 use core::str;
-use target_names::{is_visible, suggestion_in, Suggestion};
+use target_names::{is_visible, suggestion_in, Suggestion, SHOWN};
 
 /// What stands for bytes that are no character.
 const REPLACEMENT: char = '\u{fffd}';
@@ -34,7 +34,7 @@ fn push_line(bytes: &[u8], error: &TextError, out: &mut Text) -> Result<(), Stat
             }; // which a text never refuses
         }
     }
-    push_visible(part, out);
+    push_begin(part, out);
     Ok(())
 }
 
@@ -42,9 +42,9 @@ fn push_line(bytes: &[u8], error: &TextError, out: &mut Text) -> Result<(), Stat
 pub(crate) fn line_and_caret(bytes: &[u8], error: &TextError, out: &mut Text) -> Result<(), Status> {
     push_line(bytes, error, out)?;
     out.push("\n  ");
-    let before = push_visible(&bytes[..error.start], out);
-    let part = push_visible(part(bytes, error)?, out);
-    push_visible(&bytes[error.end..], out);
+    let before = push_end(&bytes[..error.start], out);
+    let part = push_begin(part(bytes, error)?, out);
+    push_begin(&bytes[error.end..], out);
     out.push("\n  ");
     (0..before).for_each(|_| out.push(" "));
     (0..part.max(1)).for_each(|_| out.push("^"));
@@ -78,19 +78,32 @@ fn characters(mut bytes: &[u8]) -> impl Iterator<Item = char> + '_ {
     })
 }
 
-/// Writes the characters, each that isn't visible escaped. Returns how many are written.
-fn push_visible(bytes: &[u8], out: &mut Text) -> usize {
+/// A character as it is shown: escaped, unless it is visible.
+fn shown(it: char) -> impl Iterator<Item = char> {
+    let (plain, escaped) = if is_visible(it) { (Some(it), None) } else { (None, Some(it.escape_default())) };
+    plain.into_iter().chain(escaped.into_iter().flatten())
+}
+
+/// Writes characters. Returns how many.
+fn push_characters(characters: impl Iterator<Item = char>, out: &mut Text) -> usize {
+    characters.map(|it| out.push(it.encode_utf8(&mut [0; 4]))).count()
+}
+
+/// Writes the characters as they are shown; of many the first ones, and `...`. Returns how many are written.
+fn push_begin(bytes: &[u8], out: &mut Text) -> usize {
     let mut count = 0;
-    let mut push = |it: char| {
-        out.push(it.encode_utf8(&mut [0; 4]));
-        count += 1;
-    };
     for it in characters(bytes) {
-        if is_visible(it) {
-            push(it);
-        } else {
-            it.escape_default().for_each(&mut push);
+        if count + shown(it).count() > SHOWN {
+            return count + push_characters("...".chars(), out);
         }
+        count += push_characters(shown(it), out);
     }
     count
+}
+
+/// Writes the characters as they are shown; of many `...`, and the last ones. Returns how many are written.
+fn push_end(bytes: &[u8], out: &mut Text) -> usize {
+    let left_out = characters(bytes).flat_map(shown).count().saturating_sub(SHOWN);
+    let dots = if left_out > 0 { "..." } else { "" };
+    push_characters(dots.chars().chain(characters(bytes).flat_map(shown).skip(left_out)), out)
 }

@@ -553,6 +553,16 @@ static void try_bad_errors(void) {
       "Unrecognized architecture: \\u{1b}[31m\\u{202e}!\n  \\u{1b}[31m\\u{202e}!\n  ^^^^^^^^^^^^^^^^^^^") == 0);
 }
 
+/* Of a long part, and of what is around it, 200 characters are shown, and three dots. */
+static void try_long_error(void) {
+  static const struct lexicon_error error = {LEXICON_UNRECOGNIZED_ARCHITECTURE, 300, 600, NULL};
+  char text[999], out[2048];
+  size_t length;
+  memset(text, 'Z', sizeof text);
+  EXPECT(lexicon_error_text(text, sizeof text, &error, out, sizeof out, &length) == LEXICON_OK);
+  EXPECT(length == strlen("Unrecognized architecture: ") + 203 + 3 + 3 * 203 + 3 + 2 * 203 && strspn(out + 27, "Z") == 200);
+}
+
 /* Sizes that no memory has, of which one is 4 with a bit more. What is there isn't looked at, and nothing is
    written. */
 static void try_too_large(void) {
@@ -655,6 +665,7 @@ static void try_names(void) {
 static unsigned try_calls(void) {
   for (size_t i = 0; i < sizeof rows / sizeof *rows; i++) try_row(&rows[i]);
   try_bad_errors();
+  try_long_error();
   try_too_large();
   try_pairs();
   try_struct();

@@ -100,7 +100,8 @@ export class ParseError extends Error {
   readonly needsLibc: boolean;
   /**
    * What was expected, the string below it, and carets below the refused part, with the suggestion or the reason. What
-   * isn't printable ASCII is escaped. The `message` is this, and which call reads a name of another tool.
+   * isn't printable ASCII is escaped, and of the part and of what is around it up to 200 characters are shown. The
+   * `message` is this, and which call reads a name of another tool.
    */
   readonly report: string;
   /** What else is known of the string, such as by which call it is read: what follows the report in the message. */

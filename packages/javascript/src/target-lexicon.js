@@ -223,9 +223,12 @@ export function version() {
   return it.string(it.call("version"));
 }
 
-/** What a value is, for the message that refuses it. */
-const kindOf = (value) => (value === null || value === undefined ? `${value}` : Array.isArray(value) ? "an array"
-  : typeof value === "object" ? "an object" : `a ${typeof value}`);
+/** What a value is, for the message that refuses it: `an object` is none of another kind, such as a Map. */
+function kindOf(value) {
+  if (value === null || value === undefined) return `${value}`;
+  const kind = typeof value === "object" ? Object.prototype.toString.call(value).slice(8, -1) : typeof value;
+  return `${/^[AEIO]/i.test(kind) ? "an" : "a"} ${["Array", "Object"].includes(kind) ? kind.toLowerCase() : kind}`;
+}
 
 /** An argument of the right kind, `form`. Of every other kind this is the error. */
 function checked(isRight, name, form, value) {

@@ -227,7 +227,7 @@ const tests = {
     for (const call of [Triple.parse, Triple.tryParse, Triple.explain, Triple.read, changes, meanings,
       (it) => Triple.read(it, "go")]) {
       for (const [it, kind] of [[7, "a number"], [7n, "a bigint"], [null, "null"], [["avr"], "an array"],
-        [new String("avr"), "an object"], [() => "avr", "a function"]])
+        [new String("avr"), "a String"], [() => "avr", "a function"]])
         assert.throws(() => call(it), { name: "TypeError", message: `text is a string, not ${kind}` }, `${call}`);
     }
     for (const [kind, message, ...calls] of [
@@ -260,6 +260,8 @@ const tests = {
       [TypeError, `${values}undefined`, () => Triple.of(), () => linux.with()],
       [TypeError, `${values}null`, () => Triple.of(null)],
       [TypeError, `${values}an array`, () => Triple.of(["x86_64"])],
+      [TypeError, `${values}a Map`, () => Triple.of(new Map([["architecture", "x86_64"]]))],
+      [TypeError, `${values}an Error`, () => linux.with(new Error("avr"))],
       [TypeError, `${values}a string`, () => Triple.of("avr"), () => linux.with("avr")],
       [TypeError, "architecture is a string, not a number", () => Triple.of({ architecture: 7 })],
       [TypeError, "environment is a string, not a symbol", () => linux.with({ environment: Symbol("x") })],
@@ -417,8 +419,10 @@ const tests = {
       assert.equal(`${Triple.parse("wasm32-unknown-wasi")}`, "wasm32-wasi");
     }
     assert.equal(refusal("-".repeat(1000000)).end, 0);
-    assert.deepEqual(refusal(`x86_64-${"Z".repeat(999)}`).report.split("\n").map((it) => it.length),
-      [21 + 999, 2 + 7 + 999, 2 + 7 + 999]);
+    assert.deepEqual(refusal(`x86_64-${"a".repeat(999)}-${"Z".repeat(999)}-${"b".repeat(999)}`).report,
+      [`Unrecognized operating system: ${"Z".repeat(200)}...`,
+        `  ...${"a".repeat(199)}-${"Z".repeat(200)}...-${"b".repeat(199)}...`,
+        `  ${" ".repeat(203)}${"^".repeat(203)}`].join("\n"));
   },
   "a full stack spoils nothing, and the module can be loaded again": () => {
     const before = Triple.parse("x86_64-acme-linux"), deeper = () => {

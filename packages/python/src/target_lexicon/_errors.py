@@ -6,11 +6,8 @@ from typing import Optional, Tuple, Union
 
 from . import _library, _names
 from ._dialects import dialect_number
-from ._named import shown
+from ._named import first_shown, last_shown, shown
 from ._names import FIELDS, Dialect, DialectName
-
-# How many characters of a string, and of the refused part, a message shows.
-_SHOWN_BEFORE, _SHOWN_PART, _SHOWN_AFTER = 40, 60, 20
 
 # The statuses that the library gives for a refused string in UTF-8: without a dialect, and for a name in one.
 _REFUSALS = range(1, _names.UNRECOGNIZED_FIELD + 1), (_names.UNKNOWN_NAME, _names.NAME_WITHOUT_TRIPLE)
@@ -104,10 +101,8 @@ class ParseError(ValueError):
         return f"Lone surrogate: {part}" if status == _names.NOT_UTF8 else _library.error_line(status, part)
 
     def __str__(self) -> str:
-        part = shown(self.part if len(self.part) <= _SHOWN_PART else self.part[:_SHOWN_PART] + "...")
-        before, after = self.text[: self.start], self.text[self.end:]
-        begin = shown(before if len(before) <= _SHOWN_BEFORE else "..." + before[-_SHOWN_BEFORE:])
-        end = shown(after if len(after) <= _SHOWN_AFTER else after[:_SHOWN_AFTER] + "...")
+        begin, part, end = (last_shown(self.text[:self.start]), first_shown(self.part),
+                            first_shown(self.text[self.end:]))
         name, reason = self.suggestion, self.reason
         hint = f" did you mean `{name}`?" if name else f" {reason}" if reason else ""
         note = self._note()

@@ -78,6 +78,22 @@ class Immutable:
             serialization=schema.to_string_ser_schema())
 
 
+#: As many characters as a message shows of a long part, which is as many as the library's show.
+_SHOWN = 200
+
+
+def first_shown(text: str) -> str:
+    """The string as a message shows it, of a long one the beginning."""
+    first = shown(text[:_SHOWN + 1])
+    return first if len(first) <= _SHOWN else f"{first[:_SHOWN]}..."
+
+
+def last_shown(text: str) -> str:
+    """The string as a message shows it, of a long one the end."""
+    last = shown(text[-_SHOWN - 1:])
+    return last if len(last) <= _SHOWN else f"...{last[-_SHOWN:]}"
+
+
 def shown(text: str) -> str:
     """The string as a message shows it: every character that isn't printable ASCII is escaped, so that columns are
     characters."""

@@ -6,12 +6,9 @@ from typing import List, NamedTuple, Optional, Sequence, Tuple, Union
 from . import _library, _names
 from ._dialects import NO_DIALECT, dialect_number, libc_number
 from ._errors import ParseError, encoded, range_in
-from ._named import shown
+from ._named import first_shown, shown
 from ._names import FIELDS, ChosenLibc, ChosenLibcName, Dialect, DialectName
 from ._triple import Triple, _triple_of, versions_struct
-
-# How many characters of a name a message shows.
-_SHOWN = 60
 
 
 class TranslationError(ParseError):
@@ -47,7 +44,7 @@ class TranslationError(ParseError):
         return f"{_library.error_line(_names.TRIPLE_WITHOUT_NAME, part)}: {shown(self.reason)}"
 
     def __str__(self) -> str:
-        return self._line(shown(self.text if len(self.text) <= _SHOWN else self.text[:_SHOWN] + "..."))
+        return self._line(first_shown(self.text))
 
 
 def translate(

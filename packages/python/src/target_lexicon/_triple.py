@@ -302,8 +302,9 @@ class Triple(FactsOfTriple, Immutable):
 
         The vendor doesn't matter, nor what the dialect doesn't name. A version, of one or two numbers, is that of
         glibc, musl, macos, ios, android (its API level), freebsd, netbsd, openbsd, dragonfly or windows (its build),
-        which names of Python state. One of another system or C library than the triple's never applies. That of glibc
-        or of musl, if there isn't one of both, says the C library of a triple of Linux that states none.
+        which names of Python state, and some of Zig, such as `aarch64-macos.11.0`. One of another system or C library
+        than the triple's never applies. That of glibc or of musl, if there isn't one of both, says the C library of a
+        triple of Linux that states none.
         """
         return _library.write(dialect_number(dialect), self._struct, versions_struct(versions))[0]
 
