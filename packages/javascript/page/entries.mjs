@@ -1,5 +1,5 @@
-// What the page copies of each target: what `target-lexicon facts --json` and `target-lexicon what --json` write,
-// without notes. The tests compare.
+// What the page copies of each target: what `target-lexicon facts --json`, for a name with `--from`, and
+// `target-lexicon what --json` write, without notes. The tests compare.
 export const snakeCase = (name) => name.replace(/[A-Z]/g, (letter) => `_${letter.toLowerCase()}`);
 export const versionOf = ({ version: it }) => it && `${it.major}.${it.minor}.${it.patch}`;
 const place = (text) => ({ target: text, file: null, line: null });
@@ -16,8 +16,9 @@ export function errorEntry(text, error) {
     ...byteRange(text, error), field, suggestion: error.suggestion };
 }
 
-export function factsEntry({ FIELDS, Triple }, text) {
-  const { triple, error } = Triple.explain(text);
+/** Of what a text means, or of the triple that it is. */
+export function factsEntry({ FIELDS, Triple }, text, meant = null) {
+  const { triple, error } = meant ? { triple: meant } : Triple.explain(text);
   if (error) return errorEntry(text, error);
   const version = ["version", versionOf(triple)];
   const fields = FIELDS.flatMap((name) => [[name, triple[name]], ...(name === "operatingSystem" ? [version] : [])]);

@@ -2,8 +2,8 @@
 // is copied, search.mjs what is found. `build` puts target-lexicon.js, the module, these and this file into one script.
 import { DIALECTS, FIELDS, WRITTEN } from "../src/names.js";
 import { ParseError, Triple, check, load, meanings, targetsIn, translate } from "../src/target-lexicon.js";
-import { factsEntry, namesEntry, toolNames, versionOf } from "./entries.mjs";
-import { byReason, driverFacts, grouped, rowOf } from "./rows.mjs";
+import { namesEntry, toolNames, versionOf } from "./entries.mjs";
+import { byReason, driverFacts, factsCopied, grouped, plainRow, rowOf } from "./rows.mjs";
 import { about, found } from "./search.mjs";
 
 const lexicon = { DIALECTS, FIELDS, ParseError, Triple, WRITTEN, meanings, translate };
@@ -24,7 +24,7 @@ const KINDS = { all: ["target", "targets"], refused: ["refused"], suspicious: ["
   duplicate: ["duplicate", "duplicates"] };
 const ORDER = ["refused", "suspicious", "other"];
 const LONGEST_LINK = 32000;
-const SLICE = 12; // milliseconds of work between two chances for input
+const SLICE = 30; // milliseconds of work between two chances for input
 const MOST_FOUND = 12;
 const UNFOLDED = 3; // of more targets than these, the names in other tools are folded, and on a phone the cards
 
@@ -56,12 +56,16 @@ const cell = (label, ...inside) => {
   return element("td", { role: "cell", "data-label": label }, value);
 };
 
-/** The targets in a text, and the words that `check` refuses, which may be spelled like none. A list has only items. */
+/**
+ * The targets in a text, and the words that `check` refuses, which may be spelled like none. A list has only items. If
+ * there is neither, the words that may be targets, and aren't understood.
+ */
 function itemsOf(text) {
   const items = targetsIn(text), starts = [...items.map((it) => it.start), Infinity];
   if (!starts.some((start, index) => /\w/.test(text.slice(items[index - 1]?.end ?? 0, start)))) return items;
-  const refused = check(text).filter((it) => it.text === it.part && !it.isUnclear && !starts.includes(it.start));
-  return [...items, ...refused].sort((one, other) => one.start - other.start);
+  const refused = check(text).filter((it) => it.text === it.part && !starts.includes(it.start)),
+    certain = refused.filter((it) => !it.isUnclear);
+  return [...items, ...items.length + certain.length ? certain : refused].sort((one, other) => one.start - other.start);
 }
 
 const linesOf = (text) => itemsOf(text).map((item) => item.text);
@@ -176,17 +180,16 @@ function headOf({ text, kind, wrong }) {
   return header(text, text.slice(0, wrong.start), marked, text.slice(wrong.end));
 }
 
-/** A row of what a triple is. */
-function tripleRow(target) {
+/** Fills a row with what a triple is. */
+function fillTriple(row, target) {
   const { text, triple, kind, fields, wrong, suggestion, tools, level, isSeveral } = target, facts = triple.facts(),
     isSuspicious = kind === "suspicious", head = headOf(target), others = meaningLines(target);
   if (suggestion) head.append(small(...question(suggestion, text, wrong)));
   if (tools) head.append(small("a name of ", toolsOf(tools), level === null ? "" : `, for the machine's level ${level}`,
     isSeveral ? ", of several machines" : ""));
-  const row = element("tr", { role: "row", class: isSuspicious ? "suspicious" : "" }, head);
   head.classList.add("folds");
   head.append(...forms(triple, text));
-  row.append(...FIELDS.map((name) => fieldCell(triple, name, fields[name], text)));
+  row.replaceChildren(head, ...FIELDS.map((name) => fieldCell(triple, name, fields[name], text)));
   if (isSuspicious) row.children[2].querySelector("code").className = "odd";
   if (facts.objectFormat !== triple.binaryFormat) row.lastChild.append(small("objects ", code(facts.objectFormat)));
   const [showNames, ...details] = detailCells(target),
@@ -198,7 +201,7 @@ function tripleRow(target) {
   row.append(details[1]);
   row.double = head.appendChild(small());
   head.append(foldButton(row, text));
-  return Object.assign(row, { canonical: triple.canonical, isName: Boolean(tools), showNames });
+  row.showNames = showNames;
 }
 
 function soFar(fields) {
@@ -208,7 +211,7 @@ function soFar(fields) {
   return [small("Before it: ", ...parts)];
 }
 
-function refusedRow(target) {
+function fillRefused(row, target) {
   const { text, wrong: error, fields, suggestion, nearest } = target, inside = meaningLines(target);
   if (!inside.length) {
     inside.push(element("p", { class: "message" }, `${error.report.split(":", 1)[0]}: ${shown(error.part)}`));
@@ -219,22 +222,39 @@ function refusedRow(target) {
     inside.push(...soFar(fields));
   }
   const answer = element("td", { role: "cell", class: "refused", colspan: 7, "aria-colspan": 7 }, ...inside);
-  return element("tr", { role: "row", class: "refused" }, headOf(target), answer);
+  row.replaceChildren(headOf(target), answer);
 }
 
-function rowFor(text) {
-  const target = rowOf(lexicon, text, chosenLibcs()), { kind } = target;
-  return Object.assign(kind === "refused" ? refusedRow(target) : tripleRow(target), { target: text, kind });
+function showDouble({ double, earlier, target }) {
+  double.replaceChildren(...(earlier === undefined ? [] : earlier === target ? ["repeated"]
+    : ["the same target as ", code(earlier)]));
+}
+
+/** The row of a target, which has only its head before it is filled. */
+function rowFor(text, isFilled) {
+  const libcs = chosenLibcs(), plain = isFilled ? null : plainRow(lexicon, text, libcs),
+    target = plain ?? rowOf(lexicon, text, libcs), { kind, triple, tools } = target;
+  const row = element("tr", { role: "row", class: kind === "other" ? "" : kind });
+  Object.assign(row, { target: text, kind, canonical: triple?.canonical, isName: Boolean(tools) });
+  row.fill = (target = rowOf(lexicon, text, libcs)) => {
+    row.fill = null;
+    (kind === "refused" ? fillRefused : fillTriple)(row, target);
+    if (row.double) showDouble(row);
+    row.fold?.(!wereFew);
+    row.showNames?.(wereFew);
+  };
+  if (isFilled) row.fill(target);
+  else row.append(header(text, text));
+  return row;
 }
 
 /** Says of a row if an earlier one is of the same target. `first` has the first target of each canonical form. */
 function markDouble(row, first) {
-  const earlier = first.get(row.canonical);
-  if (earlier === undefined) first.set(row.canonical, row.target);
-  row.classList.toggle("duplicate", earlier !== undefined);
-  row.double.replaceChildren(...(earlier === undefined ? [] : earlier === row.target ? ["repeated"]
-    : ["the same target as ", code(earlier)]));
-  return earlier !== undefined;
+  row.earlier = first.get(row.canonical);
+  if (row.earlier === undefined) first.set(row.canonical, row.target);
+  row.classList.toggle("duplicate", row.earlier !== undefined);
+  if (row.double) showDouble(row);
+  return row.earlier !== undefined;
 }
 
 const rowsInSight = () => [...table.querySelectorAll("tbody > tr")].filter((row) => row.getClientRects().length > 0);
@@ -257,9 +277,10 @@ async function replaceTarget(text, fixed) {
   typeOver(item.start, item.end, fixed);
   await edited(true);
   const rows = rowsInSight(), next = rows[Math.min(place, rows.length - 1)];
-  const head = (next && next.kind !== "other" ? next : rows.find((row) => row.target === fixed))?.firstChild;
-  head?.setAttribute("tabindex", "-1");
-  head?.focus();
+  const row = next && next.kind !== "other" ? next : rows.find((row) => row.target === fixed);
+  row?.fill?.();
+  row?.firstChild.setAttribute("tabindex", "-1");
+  row?.firstChild.focus();
 }
 
 // ---- which rows are shown
@@ -302,8 +323,15 @@ function say(text, isAside = false) {
 
 // ---- showing, in slices
 
-// The rows are in groups, so that the browser lays out only the groups that are near the screen.
-const GROUP = 100;
+// The rows are in groups, of which only those that are near the screen, and some of the first rows, are filled and laid
+// out.
+const GROUP = 100, FILLED = 300;
+const near = new IntersectionObserver((entries) => {
+  for (const { isIntersecting, target } of entries) {
+    target.isNear = isIntersecting;
+    if (isIntersecting) for (const row of target.rows) row.fill?.();
+  }
+}, { rootMargin: "1000px" });
 
 let runs = 0, wereFew = false;
 
@@ -322,7 +350,9 @@ function group(kind, index) {
   const bodies = [...table.tBodies], found = bodies.filter((it) => it.dataset.kind === kind)[index];
   if (found) return found;
   const later = bodies.find((it) => ORDER.indexOf(it.dataset.kind) > ORDER.indexOf(kind));
-  return table.insertBefore(element("tbody", { role: "rowgroup", "data-kind": kind }), later ?? null);
+  const made = table.insertBefore(element("tbody", { role: "rowgroup", "data-kind": kind }), later ?? null);
+  near.observe(made);
+  return made;
 }
 
 /** Makes the rows those of the lines, and keeps each row that is there. A later call ends an earlier one. */
@@ -337,15 +367,16 @@ async function show() {
   table.hidden = lines.length === 0;
   table.setAttribute("aria-busy", "true");
   for (const [index, line] of lines.entries()) {
-    const row = found[index] ?? rowFor(line), { kind } = row, place = places[kind];
+    const row = found[index] ?? rowFor(line, index < FILLED), { kind } = row, place = places[kind];
     if (counts[kind] % GROUP === 0) {
       place.body = group(kind, counts[kind] / GROUP);
       place.next = place.body.firstElementChild;
     }
     counts[kind]++;
-    if (!found[index] || unfolds) {
-      row.fold?.(!areFew);
-      row.showNames?.(areFew);
+    if (place.body.isNear) row.fill?.();
+    if (found[index] && unfolds) {
+      row.fold?.(false);
+      row.showNames?.(true);
     }
     if (row === place.next) place.next = place.next.nextElementSibling;
     else place.body.insertBefore(row, place.next);
@@ -353,9 +384,11 @@ async function show() {
     if (row.isName) counts.named++;
     if (performance.now() < until) continue;
     if (performance.now() - begin > 300) {
+      if (progress.hidden) say(`Reading ${countOf(lines.length)} targets.`);
       progress.hidden = false;
       progress.max = lines.length;
       progress.value = index;
+      showCounts({ ...counts, all: index + 1 });
     }
     await pause();
     if (run !== runs) return;
@@ -374,8 +407,10 @@ async function show() {
   } else {
     const whyNone = isLongLink()
       ? `The link isn't followed: its targets are longer than ${countOf(LONGEST_LINK)} characters. ` : "";
-    say(`${whyNone}No targets. Paste some above, or names of any tool: `
-      + "one a line, or any text that has some, such as a workflow.");
+    say(whyNone + (/\w/.test(field.value)
+      ? "No word of this text is a target, or resembles one. Of a list, one a line and without spaces, each is shown."
+      : "No targets. Paste some above, or names of any tool: one a line, or any text that has some, such as a "
+        + "workflow."));
   }
   notice(unread.map((it) => `A target of the link can't be read: ${shown(it)}.`).join(" "));
 }
@@ -554,9 +589,10 @@ async function begin() {
     show();
   });
   byId("search").addEventListener("input", search);
-  for (const [id, entryOf] of [["copy_names", (text) => namesEntry(lexicon, text, chosenLibcs())],
-    ["copy_facts", (text) => factsEntry(lexicon, text)]]) byId(id).addEventListener("click",
-    ({ currentTarget }) => copyJson(currentTarget, entryOf));
+  const entries = { copy_names: (text) => namesEntry(lexicon, text, chosenLibcs()),
+    copy_facts: (text) => factsCopied(lexicon, text, chosenLibcs()) };
+  for (const [id, entryOf] of Object.entries(entries))
+    byId(id).addEventListener("click", ({ currentTarget }) => copyJson(currentTarget, entryOf));
   byId("copy_link").addEventListener("click", ({ currentTarget }) => copyLink(currentTarget));
   for (const id of CHOICES) {
     byId(id).addEventListener("change", () => {

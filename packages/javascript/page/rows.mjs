@@ -1,6 +1,6 @@
 // What the page says of a target: whether it is a triple, a tool's name, suspicious or refused, and what may be meant
 // instead. Nothing here is of a browser: page.js shows it. `lexicon` has the calls of target-lexicon.js.
-import { completed, meaningsOf } from "./entries.mjs";
+import { completed, errorEntry, factsEntry, meaningsOf } from "./entries.mjs";
 
 // The linkers of an object format.
 const LINKERS = { elf: "ld, ld.lld, mold", macho: "ld64, ld64.lld", coff: "link.exe, lld-link", wasm: "wasm-ld",
@@ -123,9 +123,15 @@ const UNIVERSAL = ["x86_64-apple-darwin", "aarch64-apple-darwin"].map((meant) =>
 
 function refused(lexicon, { text, error, fields, suggestion }, meant) {
   const others = text === "universal2" ? UNIVERSAL : [...otherMeanings(meant, null)],
-    isNearName = !others.length && !suggestion && error.start === 0;
+    isNearName = !others.length && !suggestion && error.start === 0 && text.length < 1000; // as no name is longer
   return { kind: "refused", wrong: error, fields, others, suggestion: others.length ? null : suggestion,
     nearest: isNearName ? nearestNames(lexicon, text) : [] };
+}
+
+/** The first of what `rowOf` says of a triple of a known vendor, in a small part of the time; null of anything else. */
+export function plainRow({ Triple }, text, libcs) {
+  const triple = Triple.tryParse(text);
+  return triple && !triple.hasCustomVendor ? { kind: "other", triple: completed(triple, libcs) } : null;
 }
 
 /**
@@ -141,4 +147,12 @@ export function rowOf(lexicon, text, libcs) {
   const triple = completed(row.triple, libcs), isChosen = triple.environment !== row.triple.environment;
   const chosen = { environment: { origin: "chosen", part: triple.environment } };
   return { text, ...row, stated: row.triple, triple, fields: { ...row.fields, ...isChosen && chosen } };
+}
+
+/** What is copied of a target: the facts of the triple that its row shows, but none of a name of several machines. */
+export function factsCopied(lexicon, text, libcs) {
+  const { triple, tools, isSeveral } = rowOf(lexicon, text, libcs),
+    { error } = isSeveral ? readIn(lexicon, text, tools[0]) : {};
+  return error ? { ...errorEntry(text, error), error: `no triple means the same: ${error.reason}` }
+    : factsEntry(lexicon, text, triple);
 }

@@ -55,17 +55,14 @@ def delete(page, start, end):
 
 
 def typed(page, text, status=None):
-    """Replaces what is in the text field, by the keyboard. Lines are pasted: how many of typed lines are shown at once
+    """Replaces what is in the text field, by the keyboard. The text is pasted: how much of what is typed is shown at once
     depends on the machine."""
     page.run("document.getElementById('targets').focus()")
     page.control("a")
     page.keys(Keys.DELETE)
     page.until(f"{STATUS}.startsWith('No targets. Paste')")
-    if "\n" in text:
-        page.paste(text)
-    else:
-        page.keys(text)
     if text:
+        page.paste(text)
         count = len([it for it in text.splitlines() if it.strip()])
         page.until(f"{STATUS}.startsWith({json.dumps(status or f'{count:,} target')})")
 
@@ -192,6 +189,9 @@ def takes_lists(page):
     # words of a text that `check` refuses: one resembles two names, and one a name
     typed(page, "run: docker build --platform linux/amr64,linux/amd46 .", "2 targets: 0 parsed, 2 refused")
     same(page.run(TARGETS), ["linux/amr64", "linux/amd46"])
+    # a word that may be a target, where there is no other; and a text that has none
+    typed(page, "target: x86_64-foo-bar", "1 target: 0 parsed, 1 refused")
+    typed(page, "nothing here", "No word of this text is a target, or resembles one.")
 
 
 def refuses_and_suggests(page):
@@ -615,26 +615,34 @@ def takes_time_in_proportion(page):
 def copies_what_the_command_writes(command, page):
     """The answers of `target-lexicon facts` and `what` with --json, without notes. tests/compare.mjs compares more of
     them."""
-    targets = ["arm64-apple-ios17.1", "x86_64-pc-linx", "x86_64-\u4e2d\u6587-linux", "linux/arm", *NAMES]
+    targets = ["arm64-apple-ios17.1", "x86_64-pc-linx", "x86_64-\u4e2d\u6587-linux", *NAMES, "linux/arm"]
     typed(page, "\n".join(targets))
     choose(page, linux="glibc")
-    for button, words in ("#copy_facts", ["facts"]), ("#copy_names", ["what", "--libc", "glibc"]):
+
+    def written(*words):
+        ran = subprocess.run([command, *words, "--libc", "glibc", "--json"], capture_output=True, check=False)
+        return json.loads(ran.stdout)
+
+    facts = written("facts", *targets[:3])
+    for name, dialect in zip(targets[3:], "debian go oci gnu uname dotnet python go".split(), strict=True):
+        facts += written("facts", "--from", dialect, name)
+    for button, wanted in ("#copy_facts", facts), ("#copy_names", written("what", *targets)):
         press(page, button)
         page.until(f"{STATUS} === 'Copied 11 targets as JSON.'")
         copied = json.loads(page.run("navigator.clipboard.readText()"))
         page.run("document.getElementById('status').textContent = ''")
-        wanted = json.loads(subprocess.run([command, *words, "--json", *targets], capture_output=True,
-                                           check=False).stdout)
         for answer in [*wanted, *(it for answer in wanted for it in answer.get("meanings", []))]:
             answer.pop("note", None)
         same([{key: it[key] for key in other if key in it} for it, other in zip(wanted, copied, strict=True)], copied)
 
 
-# Counts the chances for input while rows are made.
+# Counts the chances for input while rows are made, and has what is said of how many there are.
 WATCH = """(() => {
   window.chances = 0;
+  window.counts = new Set();
   const look = () => {
     if (document.querySelector("table[aria-busy]")) chances++;
+    counts.add(document.querySelector("#chips button").textContent);
     setTimeout(look);
   };
   look();
@@ -642,8 +650,8 @@ WATCH = """(() => {
 
 
 def stays_responsive(page):
-    """It makes rows in slices, with a chance for input after each. How long that takes depends on what else the machine
-    does."""
+    """It makes rows in slices, with a chance for input after each, and fills those that are near the screen. How long
+    that takes depends on what else the machine does."""
     lines = [f"x86_64-vendor{it}-linux-gnu" if it % 4 else f"x86_64-vendor{it}-linx" for it in range(10000)]
     page.run(WATCH)
     typed(page, "\n".join(lines))
@@ -653,7 +661,10 @@ def stays_responsive(page):
     page.keys("arm64\n")
     page.until(f"{STATUS}.startsWith('10,001 targets')")
     same(page.run(f"[0, 2500, 2501].map((it) => {ROWS}[it].target)"), [lines[0], "arm64", lines[1]])
-    assert chances >= 10, f"{chances} chances for input"
+    assert chances >= 10 and page.run("counts.size") > 5, f"{chances} chances for input"
+    same(page.run(f"{ROWS}[9999].cells.length"), 1)
+    page.run("scrollTo(0, 1e9)")
+    page.until(f"{ROWS}.at(-1).cells.length > 2")
     return f"10,000 lines, with {chances} chances for input"
 
 
