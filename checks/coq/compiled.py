@@ -19,7 +19,7 @@ CRATES = {"src/lib.rs": ("--crate-name=target_lexicon", "--crate-type=lib"),
           "build.rs": ("--crate-name=build_script_build",)}
 # A constant that decides stays in the function that it decides about, as it may depend on the target or the host.
 UNFOLDED = ",".join(f"-SimplifyConstCondition-{it}" for it in ("after-inst-simplify", "after-const-prop", "final"))
-FLAGS = ("-Funsafe-code", "-Copt-level=0", "-Coverflow-checks=on", "-Ztrim-diagnostic-paths=no",
+FLAGS = ("-Funsafe-code", "-Fnon-ascii-idents", "-Copt-level=0", "-Coverflow-checks=on", "-Ztrim-diagnostic-paths=no",
          f"-Zmir-enable-passes={UNFOLDED}")
 # What the build script writes, which is another host as for an older rustc; what answers it isn't proved.
 HOST = "Triple {{ architecture: Architecture::{}, vendor: Vendor::{}, operating_system: OperatingSystem::{}, " \
@@ -131,8 +131,8 @@ def version():
 def items(text):
     """The names and the whole text of the functions and constants of MIR, in order, wherever their files are."""
     statics = dict(re.findall(r"^(alloc\d+) \(static: ([\w:]+),", text, re.M))
-    text = outside(r"\balloc\d+\b", lambda m: statics.get(m[0], "alloc"), text)
-    text = outside(r"\b(?:core|alloc|std)::", lambda m: "std::", text)
+    text = outside(r"(?<=\{)alloc\d+(?=: )", lambda m: statics.get(m[0], "alloc"), text)
+    text = outside(r"(?<![\w:])(?:core|alloc|std)::", lambda m: "std::", text)
     text = outside(r"<static\(DefId\(0:\d+ ~ \w+\[\w+\]", lambda m: "<static(DefId(", text)  # a hash of rustc's flags
     text = outside(r"(<impl at |\{closure@).*?\bsrc/", lambda m: m[1] + "src/", text)
     return [(m["name"] or m["head"], m[0]) for m in re.finditer(ITEM, text)]

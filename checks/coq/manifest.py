@@ -19,7 +19,7 @@ def check_manifest(root):
     for name, expected in READ.items():
         text = root.joinpath("packages/rust", name).read_text(encoding="utf-8")
         if name == "Cargo.toml":
-            lines = "".join(re.findall(r"^[^#\n].*\n", text, re.M))
+            lines = "".join(re.findall(r"^[^#\n].*\n?", text, re.M))
             package, *others = re.split(r"^(?=\[package\.)", lines, flags=re.M)
             text = "".join([re.sub(f"^{ABOUT}", "", package, flags=re.M), *others])
         if hashlib.sha256(text.encode()).hexdigest() != expected:
