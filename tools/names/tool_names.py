@@ -86,7 +86,8 @@ class Elsewhere:
     that rows without a triple cite, by their names."""
     dialects: dict = field(default_factory=dict)
     words: dict = field(default_factory=lambda: {it: {} for it in ("maker", "kernel", "system", "notmachine",
-                                                                   "notsystem", "othermaker", "novendor")})
+                                                                   "notsystem", "othermaker", "novendor",
+                                                                   "otherword")})
     said: dict = field(default_factory=dict)
     parts: dict = field(default_factory=lambda: {"first": [], "second": [], "hard": [], "later": []})
     only_written: str = ""
@@ -456,7 +457,7 @@ def files(tables, types):
         lines += ["    },"]
     lines += ["];", *texts("MAKERS", "maker"), *texts("KERNELS", "kernel"), *texts("NOT_MACHINES", "notmachine"),
               *texts("NOT_SYSTEMS", "notsystem"), *texts("OTHER_MAKERS", "othermaker"),
-              *texts("NO_VENDORS", "novendor"), "",
+              *texts("NO_VENDORS", "novendor"), *texts("OTHER_WORDS", "otherword"), "",
               "pub(crate) static SYSTEMS: &[(&str, &str)] = systems![",
               *filled([f'"{it}"' for it in words["system"]], " ", "    "), "];", "",
               "/// What words say, in the order of the bytes of the words.",

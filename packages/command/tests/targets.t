@@ -189,7 +189,7 @@ An unknown environment after a machine and a system is wrong, and so is what is 
   ! more.yml:1:12: error: no tool has the name `macsx_11_0_arm64`
   ! more.yml:2:8: error: no tool has the name `amd46`
   ! more.yml:4:14: error: custom vendor `linu`
-  ! more.yml:4:84: error: no tool has the name `i686-inux`
+  ! more.yml:4:89: error: custom vendor `inux`
   ! more.yml:6:23: error: no tool has the name `Lnux`
   ! more.yml:9:13: error: no tool has the name `linux/arn64`
   ! more.yml:9:26: error: no tool has the name `linux-arn64`

@@ -1,11 +1,12 @@
 //! The dialects, whose names are read and written by the rows of [`TABLES`].
-use crate::evidence::level_spelled;
+use crate::evidence::{level_spelled, said};
 use crate::gnu::read_as_gnu;
 use crate::levels::{is_same, machine_at, may_have_name};
 use crate::loose::last_tag;
 use crate::name::Name;
 use crate::platform::row_of_platform;
 use crate::shape::{is_another_target, unversioned, version, AbiRule, MachineRule, Rules};
+use crate::spelled::is_of_machine;
 use crate::table::refusals::SEVERAL;
 use crate::table::{Dialect, DIALECT_NAMES, ONLY_WRITTEN, TABLES, VERSION_RANGES};
 use core::cmp::Ordering;
@@ -182,6 +183,9 @@ impl Dialect {
     /// ```
     #[must_use]
     pub fn note(self, name: &str) -> Option<&'static str> {
+        if self == Dialect::Gnu && has_processor(name) && self.read_loosely(name).is_ok() {
+            return Some("its vendor may be a processor's name, which no triple states");
+        }
         let (row, _) = self.row_of(name)?;
         let mut notes = self.table().notes.iter().filter(|it| it.0 == row.0);
         notes.next().map(|it| it.1)
@@ -426,4 +430,12 @@ pub(crate) fn has_version(major: u16, minor: u8, pattern: &str) -> bool {
         (pattern.starts_with(text) || pattern.ends_with(text)) && (*least..=*most).contains(&major)
     };
     has_places && VERSION_RANGES.iter().any(is_in)
+}
+
+/// Whether the vendor of a string spelled like a triple may be a processor: `powerpc-8540-linux-gnu`, `mips-img-linux-gnu`.
+fn has_processor(name: &str) -> bool {
+    let mut parts = name.split('-').skip(1);
+    let (vendor, is_followed) = (parts.next().unwrap_or(""), parts.next().is_some());
+    let has_number = vendor.bytes().any(|it| it.is_ascii_digit());
+    is_followed && (has_number && said(vendor).is_none() && !is_of_machine(vendor) || vendor == "img")
 }

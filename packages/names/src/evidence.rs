@@ -20,7 +20,7 @@ use crate::shape::{unversioned, usual_vendor};
 use crate::suggestions::{
     architecture_of, edits_between, first_part, fit_alone, known_names, machine_of, visible, Place, FIRST_RULES,
 };
-use crate::table::WORDS;
+use crate::table::{OTHER_WORDS, WORDS};
 use crate::{Dialect, FloatAbi};
 use core::fmt::{self, Write};
 use core::ops::Range;
@@ -112,6 +112,8 @@ pub struct Evidence<'a> {
     pub(crate) unknown: Option<&'a str>,
     /// Alpine's `armhf` is Armv6.
     is_of_alpine: bool,
+    /// It may be a name of Node's, whose `ppc64` is little-endian on Linux.
+    is_of_node: bool,
     /// A machine and `elf` stand there without a system: it is none.
     is_bare: bool,
     /// Before that, a word isn't understood, as in the name of a program.
@@ -132,6 +134,7 @@ impl<'a> Evidence<'a> {
         let mut evidence = Evidence { text, ..Evidence::default() };
         let mut words = Words { text, at: start };
         let (mut before, mut from) = (None, 0);
+        let is_sign = |it: char| !it.is_ascii_alphanumeric();
         while let Some(word) = words.next() {
             if let Some((level, end)) = evidence.level_at(word.start).filter(|_| before == Some(Kind::Machine)) {
                 evidence.level.add(level);
@@ -150,6 +153,9 @@ impl<'a> Evidence<'a> {
                 None => (said_in(text, &word), word.clone()),
             };
             let word = word.start..last.end;
+            let is_after_ppc64 = || text[..word.start].trim_end_matches(is_sign).ends_with("linux-ppc64");
+            let may_be_library = said.map_or(!is_version(&text[word.clone()]), |it| matches!(it, "gnu" | "musl"));
+            evidence.is_of_node |= before == Some(Kind::Machine) && may_be_library && is_after_ppc64();
             let says_nothing = matches!(said, None | Some("nothing"));
             if says_nothing && before == Some(Kind::Machine) && evidence.may_be_other_machine(from, &word) {
                 evidence.machine = Said::Unsaid;
@@ -286,8 +292,9 @@ impl<'a> Evidence<'a> {
             "64" => self.width.add(PointerWidth::U64),
             "hard" => self.floats.add(FloatAbi::Hard),
             "soft" => self.floats.add(FloatAbi::Soft),
-            "v2" | "v3" | "v4" | "neon" | "i486" => self.level.add(what),
+            "v2" | "v3" | "v4" | "v5" | "v6" | "v7" | "neon" | "i486" => self.level.add(what),
             "alpine" => self.is_of_alpine = true,
+            "node" => self.is_of_node |= !self.has_machine(),
             _ if what.starts_with("power") && !what.starts_with("powerpc") || what.starts_with("rva") => {
                 self.level.add(what)
             }
@@ -333,6 +340,11 @@ impl<'a> Evidence<'a> {
         self.is_empty() && self.library == Said::Unsaid && self.floats == Said::Unsaid && self.form == Said::Unsaid
     }
 
+    /// Whether words say a system and nothing of a machine, and each is understood.
+    pub(crate) fn is_only_system(&self) -> bool {
+        self.system != Said::Unsaid && !self.has_machine() && self.unknown.is_none() && !self.has_title
+    }
+
     /// Whether words say a machine and a system, and each is understood.
     pub(crate) fn is_understood(&self) -> bool {
         self.has_machine() && self.system != Said::Unsaid && self.unknown.is_none() && !self.has_title
@@ -346,6 +358,7 @@ impl<'a> Evidence<'a> {
         let is_arm = |it| matches!(it, Architecture::Arm(_) | Architecture::Aarch64(_));
         match self.machine {
             Said::One(it) if self.is_any_arm && !is_arm(it) => Said::Contradicted,
+            Said::One(Architecture::Powerpc64) if self.is_of_node => Said::Contradicted,
             // In `aarch64-arm-none-eabi` it is another one.
             Said::One(Architecture::Aarch64(_)) if self.is_any_arm && has_floats => Said::Contradicted,
             Said::Unsaid if self.is_any_arm && (has_floats || !may_be_64) => Said::One(arm),
@@ -677,16 +690,30 @@ pub(crate) fn said(word: &str) -> Option<&'static str> {
     };
     let versioned = || {
         let name = word.trim_end_matches(|it: char| it.is_ascii_digit());
-        if name.len() == word.len() {
+        let version = &word[name.len()..];
+        if version.is_empty() {
             return None;
         }
         let said = listed(name).or_else(|| system_named(name))?;
         let first = said.split(' ').next()?;
         let is_system = kind_of(first) == Kind::System;
-        let has_versions = matches!(said, "version" | "musl" | "msvc") || name == "glibc";
+        // A library's 32 and 64 are of an ABI.
+        let is_width = matches!(version, "32" | "64");
+        let has_versions = (matches!(said, "version" | "musl" | "msvc") || name == "glibc") && !is_width;
         (is_system || has_versions).then_some(said)
     };
     listed(word).or_else(|| machine_named(word)).or_else(|| system_named(word)).or_else(versioned)
+}
+
+/// Whether a word is one for a machine, a system or an ABI that no triple has, and so no misspelled one.
+pub(crate) fn is_of_no_triple(word: &str) -> bool {
+    has_other_word(word) || matches!(said(word), Some("other-machine" | "other-system" | "other-abi"))
+}
+
+/// Whether a word of a name is one that no triple has a meaning of, and that says nothing here.
+pub(crate) fn has_other_word(name: &str) -> bool {
+    let mut words = name.split(|it: char| !it.is_ascii_alphanumeric());
+    words.any(|word| OTHER_WORDS.iter().any(|it| it.eq_ignore_ascii_case(word)))
 }
 
 /// The level of the machine that the first part of a string says which is [read](crate::read) as spelled like a triple,
@@ -766,9 +793,9 @@ pub(crate) fn order_of(word: &str) -> Option<Endianness> {
     little.or_else(|| of(["eb", "be"]).then_some(Endianness::Big))
 }
 
-/// Whether a number may be a misspelled 64.
+/// Whether a number may be a misspelled 64: of its digits, or with a neighbour of one.
 fn is_of_64(word: &str) -> bool {
-    word.bytes().all(|it| matches!(it, b'4' | b'6'))
+    word.bytes().all(|it| matches!(it, b'4' | b'6')) || matches!(word, "54" | "74" | "63" | "65")
 }
 
 fn is_number(word: &str) -> bool {

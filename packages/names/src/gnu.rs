@@ -5,7 +5,7 @@ use crate::environment::library_and_abi;
 use crate::reading::{is_soft_floats, read};
 use crate::shape::usual_vendor;
 use crate::spelled::{is_like_system, is_of_machine, may_be_versioned};
-use crate::suggestions::is_dropped_version;
+use crate::suggestions::{edits_between, is_dropped_version, known_names};
 use crate::table::{refusals, KERNELS, MAKERS, NOT_MACHINES, NOT_SYSTEMS, OTHER_MAKERS, SYSTEMS};
 use crate::{suggestion, Evidence, NameError, Said};
 use core::fmt::Write;
@@ -116,10 +116,13 @@ fn is_word_of_system(part: &str) -> bool {
     part != "none" && Evidence::of(part).system != Said::Unsaid
 }
 
-/// Whether a part is a custom vendor that resembles a system, as `liux` does.
+/// Whether a part is a custom vendor that resembles a system, as `liux` and `kinux` do.
 fn is_near_system(part: &str) -> bool {
     let is_custom = VendorRef::from_str(part).map_or(false, |it| it.is_custom());
-    is_custom && suggestion(Field::OperatingSystem, part).is_some()
+    let is_slip = |name: &&str| name.len() > 4 && edits_between(part.as_bytes(), name) == Some(1);
+    is_custom
+        && (suggestion(Field::OperatingSystem, part).is_some()
+            || known_names(Field::OperatingSystem).iter().any(is_slip))
 }
 
 fn is_one_of(names: &[&str], part: &str) -> bool {

@@ -4,7 +4,7 @@
 //! the nearest names of all tools are of its machine and byte order: otherwise another machine may have been meant, and there is none.
 use crate::buffer::Buffer;
 use crate::dialect::Row;
-use crate::evidence::{only_machine, says_nothing};
+use crate::evidence::{has_other_word, only_machine, says_nothing};
 use crate::levels::{is_at_most, level_of};
 use crate::shape::unversioned;
 use crate::suggestions::{
@@ -200,10 +200,10 @@ struct Hints<'a> {
 }
 
 impl<'a> Hints<'a> {
-    /// A longer name gets no hint, so that none takes long.
+    /// A longer name gets no hint, so that none takes long, nor does one with a word that no triple has a meaning of.
     fn of(name: &'a str) -> Option<Self> {
-        let is_short = name.len() <= LONGEST_PATH;
-        is_short.then(|| Hints { name, evidence: Evidence::of(name), near: Cell::new(None) })
+        let may_be_meant = name.len() <= LONGEST_PATH && !has_other_word(name);
+        may_be_meant.then(|| Hints { name, evidence: Evidence::of(name), near: Cell::new(None) })
     }
 
     /// The answer of [`Dialect::suggestion`].
@@ -241,7 +241,11 @@ impl<'a> Hints<'a> {
 
     /// The nearest name that contradicts nothing which the words say.
     fn nearest(&self, dialect: Dialect) -> Option<&'static str> {
-        let name = self.name;
+        let (name, evidence) = (self.name, &self.evidence);
+        // A system's word of which all is understood isn't misspelled: `archlinux`.
+        if !name.contains(SIGNS) && !name.bytes().any(|it| it.is_ascii_digit()) && evidence.is_only_system() {
+            return None;
+        }
         let allows = |row: &Row| dialect.sense(row.0).map_or(false, |it| self.evidence.allows(&it));
         let is_one_edit = |other: &str| edits_between(name.as_bytes(), other) == Some(1);
         let keeps_numbers = |other: &str| numbers_apart(name) <= numbers_apart(other) || is_one_edit(other);

@@ -81,7 +81,9 @@ pub(crate) fn level_of((architecture, word): Machine<'_>) -> (Architecture, u32)
         // Armv9 has what Armv8.5 has.
         (Aarch64(_), _) if major == "9" => first(5 + number(minor)) | 1 << 16,
         (Aarch64(_), _) => first(number(minor)),
-        (Arm(_), "armv6") => arm_level(ArmArchitecture::Armv6),
+        (Arm(_), "v5") => arm_level(ArmArchitecture::Armv5te),
+        (Arm(_), "v6" | "armv6") => arm_level(ArmArchitecture::Armv6),
+        (Arm(_), "v7") => arm_level(ArmArchitecture::Armv7),
         (Arm(_), "neon") => NEON,
         (Riscv32(_) | Riscv64(_), "gc" | "rva20u64") => first(6),
         (Riscv64(_), "rva22u64") => first(7),

@@ -1,6 +1,6 @@
 //! The targets in any text.
 use crate::buffer::Buffer;
-use crate::evidence::{only_machine, said};
+use crate::evidence::{is_of_no_triple, only_machine, said};
 use crate::hints::LONGEST_PATH;
 use crate::meanings::meaning_with;
 use crate::near::{ends_with_digit, is_of_tool, near};
@@ -542,7 +542,8 @@ fn is_of_unknown_environment(word: &str, is_value: bool) -> bool {
     let is_full = word.matches('-').count() == 3;
     refusal.expected == Some(Field::Environment)
         && TripleRef::from_str(before).map_or(false, is_known)
-        && said(part) != Some("other-abi")
+        && !is_of_no_triple(part)
+        && !said(part).map_or(false, |it| it.ends_with(" soft") || it.ends_with(" hard"))
         && (is_value && is_full
             || names.any(|name| match edits_between(part.as_bytes(), name) {
                 Some(edits) => part.len() > 3 || is_full && part.len() > 1 && edits == 1 && said(part).is_none(),

@@ -56,7 +56,7 @@ its words name x86_64-unknown-linux=x86_64-linux, gnu-make-linux-x64, softfp-gam
     x86-64-v3.1-linux, x64-linux-none, x86_64.1-linux, linux-x64-r5, linux-x64-V5, eGPU-linux-x64, GNULinux-x64, \
     linux-x64-v12
 it names nothing known here=foo
-it names several machines=x86_64-universal, x86_64-arm64-mips-linux, multi-arch-linux, \
+it names several machines=linuxmusl_ppc64, linux-ppc64-gibc, x86_64-universal, x86_64-arm64-mips-linux, multi-arch-linux, \
     openwrt-sdk-23.05_musl.Linux-x86_64
 it names a machine that no triple has=arm64e-linux
 it names an Arm of 32 or of 64 bits, and no system=arm
@@ -77,6 +77,8 @@ no triple says all that its words say: arm, several floating-point ABIs, linux=l
 no triple says all that its words say: x86_64, linux, several C libraries or ABIs=linux-x64-glibc-musl, \
     linux-x64-android-ohos, musl-tool-linux-x64-gnu
 no triple says all that its words say: x86_64, linux, another C library or ABI=linux-x64-gnuf32
+its words say mips64, linux; here nobody knows `musl32`=mips64-linux-musl32
+its words name armeb-unknown-linux of the level v7=Linux armv7b
 its words name x86_64-unknown-linux of the level v3=x86_64_v3-linux, x86-64-v3-linux, x86_64-v3-linux, linux-x64-v3, \
     x86_64v3-linux, foo-x86_64.v3-linux.zip
 its words name powerpc64le-unknown-linux-gnu of the level power9=powerpc64le-power9-linux-gnu
@@ -134,7 +136,7 @@ fn evidence_is_said_in_a_sentence() {
 /// A triple, or why there is none, and after `=` the names of GNU.
 const OF_GNU: &str = "\
 aarch64-linux-android=aarch64-android-linux
-!to config.sub its second part is a maker, or another machine's=x86_64-liux-gnu, x86_64-mips, powerpc-vxworks-spe, x86_64-vxworks-gnu, \
+!to config.sub its second part is a maker, or another machine's=x86_64-liux-gnu, x86_64-kinux-gnu, i686-inux-gnu, x86_64-mips, powerpc-vxworks-spe, x86_64-vxworks-gnu, \
     x86_64-linux-gnu-elf, arm-freebsd-gnueabihf, x86_64-linux-linux-gnu, x86_64-windows-linux-gnu, \
     x86_64-mint-linux-gnu, x86_64-next2-linux-gnu, x86_64-gnu-linux, x86_64-eabi-linux-gnu, x86_64-win-linux, \
     x86_64-kfreebsd8-linux-gnu, x86_64-kfreebsd-musl
@@ -352,7 +354,7 @@ const SUGGESTED: &str = "\
     debian powerpcel, zig x86-lynx, apk arm-vx7, debian arm-elf, node x86-64, gnu x86-64, rust mipsel-sony-psx, \
     debian powerpcle, gnu arceb-linux-gnu, node linux-x32, debian armv6, rust aarch64-apple-ios-iso, node openuse-x64, \
     conda os-arm64, gnu armb-linux-gnueabi, zig arme-linux-gnueabi, debian spirv64, \
-    go linux/wasm, node linux-rv32, gnu mic-linux-gnu, node wsl-x64, node wii-x64
+    go linux/wasm, zig archlinux, rust x86_64-unknown-threadx, node linux-rv32, gnu mic-linux-gnu, node wsl-x64, node wii-x64
 linux/arm64=go nilux/arm64
 opensuse-x64=dotnet openuse-x64
 aix/ppc64=go aix/ppc46

@@ -61,7 +61,12 @@ impl<'a> Fit<'a> {
         let (mut names, mut next_name, mut version) = (names, None, "");
         match form {
             Form::Whole | Form::HardFloats if part == text => {}
-            Form::Dropped => version = part.strip_prefix(text).filter(|it| is_dropped_version(it.as_bytes()))?,
+            Form::Dropped => {
+                // Only Android has a version 32, and none has 64: of a C library it is of an ABI.
+                let is_width = |it: &str| matches!(it, "32" | "64") && !text.starts_with("android");
+                let is_version = |it: &&str| is_dropped_version(it.as_bytes()) && !is_width(it);
+                version = part.strip_prefix(text).filter(is_version)?;
+            }
             Form::MacOs => {
                 version = part.strip_prefix(text)?;
                 DeploymentTarget::from_str(version).ok()?;
