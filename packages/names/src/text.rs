@@ -4,7 +4,7 @@ use crate::evidence::{is_of_no_triple, only_machine, said};
 use crate::hints::LONGEST_PATH;
 use crate::meanings::meaning_with;
 use crate::near::{ends_with_digit, is_of_tool, near};
-use crate::suggestions::{architecture_of, edits_between, known_names, vendor_suggestion};
+use crate::suggestions::{architecture_of, edits_between, known_names, vendor_suggestion, FIRST_RULES};
 use crate::{Dialect, Evidence, Meaning, Meant, NameOf, Said, Sense};
 use core::fmt::Write;
 use core::iter::once;
@@ -54,15 +54,18 @@ pub fn targets_in(text: &str) -> TargetsIn<'_> {
 /// The words of a text that a check looks at. Of a *list of targets*, in which more than half of the first items are
 /// names or may be misspelled ones, they are the items. Of any other text, such as a `.gitignore`, they are those of
 /// running text: the names that [`targets_in`] gives, what is an edit from one, and misspelled triples. Of
-/// other triples with a known vendor, of what has the parts of one and an unknown machine, and of other values of the
-/// fourth rule's keys that say a machine, or before a slash a system, [`Word::is_unclear`] is true. [`Word::verdict`]
-/// says what is wrong.
+/// other triples with a known vendor, of what has the parts of one and an unknown machine, of what a letter or a missing
+/// dash makes unknown, and of other values of the fourth rule's keys that say a machine, or before a slash a system,
+/// [`Word::is_unclear`] is true. [`Word::verdict`] says what is wrong.
 ///
 /// ```
 /// use target_names::words_in;
 ///
 /// let found = |text| words_in(text).map(|it| (it.part.text, it.is_unclear)).collect::<Vec<_>>();
 /// assert_eq!(found("platform: [linux/arm46, linux/foo]"), [("linux/arm46", false), ("linux/foo", true)]);
+/// assert_eq!(found("for qrm-linux-musl or x86_64-linux-nu"), [("qrm-linux-musl", true), ("x86_64-linux-nu", true)]);
+/// assert_eq!(found("it runs on manylonux_x86_64"), [("manylonux_x86_64", true)]);
+/// assert_eq!(found("built for aarch64-appledarwin"), [("aarch64-appledarwin", true)]);
 /// assert_eq!(found("0.5.0\ndist"), []);
 /// ```
 #[must_use]
@@ -451,7 +454,8 @@ fn clarity(word: &str, is_value: bool, is_part: bool) -> Option<bool> {
     if word.len() <= LONGEST_PATH && is_wrong() && !is_known(word) {
         return Some(false);
     }
-    ((is_value || is_like_triple(word)) && is_unclear(word)).then_some(true)
+    let is_unclear = (is_value || is_like_triple(word)) && is_unclear(word) || resembles_target(word);
+    is_unclear.then_some(true)
 }
 
 /// Whether a word that isn't given says a machine, or a machine or a system before a slash. What runs jobs is no
@@ -465,6 +469,38 @@ fn is_unclear(word: &str) -> bool {
     let has_system = || word.contains('/') || is_like_triple(word) || word.split('-').next().map_or(false, is_of_tool);
     let is_said = evidence.machine() != Said::Unsaid || evidence.system != Said::Unsaid && has_system();
     is_said && !is_runner && name_of(word).is_none()
+}
+
+/// Whether a word is a target, except that a letter of its machine, of its environment or of a wheel's tag is another
+/// one, or a dash is missing: `qrm-linux-musl`, `x86_64-linux-nu`, `manylonux_x86_64`, `aarch64-appledarwin`.
+fn resembles_target(word: &str) -> bool {
+    const LONGEST: usize = 48;
+    let is_known = |text: &str| {
+        let is_known_triple = |it: TripleRef<'_>| {
+            let (machine, system) = (it.architecture, it.operating_system);
+            !it.vendor.is_custom() && machine != Architecture::Unknown && system != OperatingSystem::Unknown
+        };
+        TripleRef::from_str(text).map_or(false, is_known_triple)
+    };
+    let is_known_with_dash = |before: &str, after: &str| {
+        let mut room = Buffer::<{ LONGEST + 8 }>::new();
+        write!(room, "{before}-{after}").is_ok() && is_known(room.as_str())
+    };
+    let is_near = |part: &str, name: &str| edits_between(part.as_bytes(), name) == Some(1);
+    let has_sign = |it: u8| !it.is_ascii_lowercase() && !it.is_ascii_digit() && it != b'-' && it != b'_';
+    if word.len() > LONGEST || word.bytes().any(has_sign) {
+        return false;
+    }
+    let Some((machine, rest)) = word.split_once('-') else {
+        let (tag, machine) = word.split_once('_').unwrap_or((word, ""));
+        return only_machine(machine).is_some() && ["manylinux", "musllinux"].iter().any(|it| is_near(tag, it));
+    };
+    let (before, last) = word.rsplit_once('-').unwrap_or((word, ""));
+    let mut machines = known_names(Field::Architecture).iter().copied().chain(FIRST_RULES.iter().map(|it| it.1));
+    let mut environments = known_names(Field::Environment).iter();
+    is_known_with_dash("x86_64", rest) && machines.any(|it| is_near(machine, it)) && name_of(word).is_none()
+        || last.len() > 1 && is_known(before) && !is_known(word) && environments.any(|it| is_near(last, it))
+        || (1..word.len()).any(|at| is_known_with_dash(&word[..at], &word[at..]) && !word[at..].starts_with('-'))
 }
 
 fn is_near_name(word: &str) -> bool {
