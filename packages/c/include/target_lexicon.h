@@ -466,6 +466,7 @@ static inline enum lexicon_status lexicon_parse_strict(const char *text, size_t 
     error->status = LEXICON_UNRECOGNIZED_VENDOR;
     error->start = LEXICON_AS(size_t, parsed.custom_vendor - text);
     error->end = error->start + parsed.custom_vendor_size;
+    error->reason = NULL;
   }
   return LEXICON_UNRECOGNIZED_VENDOR;
 }

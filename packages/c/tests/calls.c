@@ -542,9 +542,10 @@ static void try_bad_errors(void) {
   EXPECT(lexicon_error_text(it.text, 3, NULL, out, 8, NULL) == LEXICON_NO_SUCH_VALUE);
   EXPECT(lexicon_suggestion(it.text, 3, NULL, out, 8, NULL) == LEXICON_NO_SUGGESTION && length == 77 &&
       is_filled(out, sizeof out));
+  it.error.reason = out;
   EXPECT(lexicon_parse_strict("x86_64-linx", 11, &it.triple, &it.error) == LEXICON_UNRECOGNIZED_VENDOR &&
       it.error.status == LEXICON_UNRECOGNIZED_VENDOR);
-  EXPECT(it.error.start == 7 && it.error.end == 11);
+  EXPECT(it.error.start == 7 && it.error.end == 11 && it.error.reason == NULL);
   it.error.status = LEXICON_UNRECOGNIZED_ARCHITECTURE;
   it.error.start = 0;
   it.error.end = 9;

@@ -235,7 +235,8 @@ static void try_errors() {
   EXPECT(!Triple::parse("avr-\xff", &error) && error.status == LEXICON_NOT_UTF8 && !error.field() &&
       !Triple::parse({}));
   std::string part(3000, 'x');
-  EXPECT(!Triple::parse("avr-pc-linux-" + part, &error) && error.line == "Unrecognized environment: " + part);
+  EXPECT(!Triple::parse("avr-pc-linux-" + part, &error) && error.part == part &&
+      error.line == "Unrecognized environment: " + part.substr(0, 200) + "...");
   EXPECT(!Triple::parse_strict("x86_64-linx", &error) && error.part == "linx" && error.suggestion == "linux" &&
       Triple::parse_strict("avr") == parsed("avr"));
 }
