@@ -67,9 +67,11 @@
 
 #ifdef __cplusplus
 #define LEXICON_AS(of, it) static_cast<of>(it)
+#define LEXICON_NULL nullptr
 extern "C" {
 #else
 #define LEXICON_AS(of, it) ((of)(it))
+#define LEXICON_NULL NULL
 #endif
 
 enum lexicon_field {
@@ -466,12 +468,13 @@ static inline enum lexicon_status lexicon_parse_strict(const char *text, size_t 
     error->status = LEXICON_UNRECOGNIZED_VENDOR;
     error->start = LEXICON_AS(size_t, parsed.custom_vendor - text);
     error->end = error->start + parsed.custom_vendor_size;
-    error->reason = NULL;
+    error->reason = LEXICON_NULL;
   }
   return LEXICON_UNRECOGNIZED_VENDOR;
 }
 
 #undef LEXICON_AS
+#undef LEXICON_NULL
 #ifdef __cplusplus
 }
 #endif
