@@ -58,17 +58,19 @@ const cell = (label, ...inside) => {
 
 /**
  * The targets in a text, and the words that `check` refuses, which may be spelled like none. A list has only items. If
- * there is neither, the words that may be targets, and aren't understood.
+ * there is neither, the words that may be targets, and aren't understood, which otherwise are `unclear`.
  */
-function itemsOf(text) {
-  const items = targetsIn(text), starts = [...items.map((it) => it.start), Infinity];
-  if (!starts.some((start, index) => /\w/.test(text.slice(items[index - 1]?.end ?? 0, start)))) return items;
+function wordsOf(text) {
+  const targets = targetsIn(text), starts = [...targets.map((it) => it.start), Infinity];
+  if (!starts.some((start, index) => /\w/.test(text.slice(targets[index - 1]?.end ?? 0, start))))
+    return { items: targets, unclear: [] };
   const refused = check(text).filter((it) => it.text === it.part && !starts.includes(it.start)),
-    certain = refused.filter((it) => !it.isUnclear);
-  return [...items, ...items.length + certain.length ? certain : refused].sort((one, other) => one.start - other.start);
+    certain = refused.filter((it) => !it.isUnclear), areLeftOut = targets.length + certain.length > 0;
+  return { unclear: areLeftOut ? refused.filter((it) => it.isUnclear) : [],
+    items: [...targets, ...areLeftOut ? certain : refused].sort((one, other) => one.start - other.start) };
 }
 
-const linesOf = (text) => itemsOf(text).map((item) => item.text);
+const linesOf = (text) => wordsOf(text).items.map((item) => item.text);
 
 // ---- rows
 
@@ -271,7 +273,7 @@ function typeOver(start, end, text) {
  * row of the target.
  */
 async function replaceTarget(text, fixed) {
-  const item = itemsOf(field.value).find((it) => it.text === text);
+  const item = wordsOf(field.value).items.find((it) => it.text === text);
   if (!item) return;
   const place = rowsInSight().findIndex((row) => row.target === text);
   typeOver(item.start, item.end, fixed);
@@ -357,7 +359,8 @@ function group(kind, index) {
 
 /** Makes the rows those of the lines, and keeps each row that is there. A later call ends an earlier one. */
 async function show() {
-  const run = ++runs, lines = linesOf(field.value), progress = byId("progress"), begin = performance.now();
+  const run = ++runs, { items, unclear } = wordsOf(field.value), lines = items.map((item) => item.text),
+    progress = byId("progress"), begin = performance.now();
   const found = rowsFor(lines), first = new Map(),
     counts = { all: lines.length, refused: 0, suspicious: 0, other: 0, duplicate: 0, named: 0 };
   const places = Object.fromEntries(ORDER.map((kind) => [kind, {}])), areFew = lines.length <= UNFOLDED,
@@ -412,7 +415,13 @@ async function show() {
       : "No targets. Paste some above, or names of any tool: one a line, or any text that has some, such as a "
         + "workflow."));
   }
-  notice(unread.map((it) => `A target of the link can't be read: ${shown(it)}.`).join(" "));
+  notice([...unread.map((it) => `A target of the link can't be read: ${shown(it)}.`), ...leftOut(unclear)].join(" "));
+}
+
+/** That words of a text may be targets, and aren't understood; of many, the first ones are shown. */
+function leftOut(unclear) {
+  const words = [...new Set(unclear.map((it) => shown(it.text)))], more = words.length > 5 ? ", .." : ".";
+  return words.length ? [`Not understood, and perhaps a target: ${words.slice(0, 5).join(", ")}${more}`] : [];
 }
 
 const chipOf = (kind) => byId("chips").querySelector(`[data-show=${kind}]`);

@@ -189,8 +189,11 @@ def takes_lists(page):
     # words of a text that `check` refuses: one resembles two names, and one a name
     typed(page, "run: docker build --platform linux/amr64,linux/amd46 .", "2 targets: 0 parsed, 2 refused")
     same(page.run(TARGETS), ["linux/amr64", "linux/amd46"])
-    # a word that may be a target, where there is no other; and a text that has none
+    # a word that may be a target, where there is no other, and beside one; and a text that has none
     typed(page, "target: x86_64-foo-bar", "1 target: 0 parsed, 1 refused")
+    same(page.run(NOTICE), "")
+    typed(page, "targets: x86_64-foo-bar, wasm32-wasi", "1 target: 1 parsed, 0 refused")
+    same(page.run(NOTICE), "Not understood, and perhaps a target: x86_64-foo-bar.")
     typed(page, "nothing here", "No word of this text is a target, or resembles one.")
 
 
