@@ -1,10 +1,9 @@
 -- The elements of a JSON array that have been parsed so far.
-use Rattle.serde_json.specs.{Data.Items, Find.get_item, View.items_view, View.view, declared.value.Value.Value}
-use Rattle.std.proofs.lemmas.{Grind.common_steps, List.Elements.All-append, List.map-append, List.take_all}
-use Rattle.target_lexicon.proofs.Common.{All, ElementsParseAs, List, MatchOption, Option, Some, Triple, Values, []}
-use Rattle.target_lexicon.proofs.Common.{add-one, arith, get_or, length, map, refl, rules, suc, take, values_of, zero}
-use Rattle.target_lexicon.proofs.Common.{ℕ, ◌++◌, ◌+◌, ◌<◌, ◌∷◌, ◌≡◌, ◌≤◌}
-use Rattle.target_lexicon.specs.Json.{IsElementParsed, IsFirstError, IsJsonErrorOf, JsonErrorValue, JsonParsesAs}
+use Rattle.target_lexicon.proofs.{All, List, Some, map, refl, rules, suc, take, view, zero, ℕ, ◌++◌, ◌+◌, ◌<◌, ◌∷◌, ◌≡◌}
+use Rattle.target_lexicon.proofs.{All-append, JsonParsesAs, MatchOption, common_steps, get_item, items_view, map-append}
+use Rattle.target_lexicon.proofs.{ElementsParseAs, IsElementParsed, IsFirstError, IsJsonErrorOf, JsonErrorValue, Option}
+use Rattle.target_lexicon.proofs.{Items, Triple, Value, Values, [], add-one, arith, get_or, length, take_all, values_of}
+use Rattle.target_lexicon.proofs.{◌≤◌}
 
 -- an element of an array, by its index
 get_item-view : (xs : List Value) (i : ℕ) (x : Value) → i < length xs

@@ -1,7 +1,5 @@
 -- Fields that are fed to a hasher one after another.
-use Rattle.lexicon_fields.specs.Laws.{HashInjectiveOn}
-use Rattle.std.{proofs.lemmas.Grind.common_steps, specs.Hash.HashWrites}
-use Rattle.target_lexicon.proofs.Common.{arith, ◌++◌}
+use Rattle.target_lexicon.proofs.{HashInjectiveOn, HashWrites, arith, common_steps, ◌++◌}
 
 module _ {T V W X Y : Type 0} {IsFirst : V → Type 0} {IsSecond : X → Type 0} {first : V → W} {second : X → Y}
     {feed_first : V → HashWrites} {feed_second : X → HashWrites} (p : T → V) (q : T → X)

@@ -1,19 +1,10 @@
 -- The data models of triples.
-use Rattle.lexicon_fields.specs.declared.architecture.Architecture.TheVariants.{Wasm32, Wasm64}
-use Rattle.lexicon_fields.specs.{PointerWidth.width_bits, declared.pointer_width.PointerWidth.PointerWidth}
-use Rattle.target_lexicon.proofs.Common.{ap, convention_on, data_model, false, option_map}
-use Rattle.target_lexicon.proofs.Common.{pointer_width, rules}
-use Rattle.target_lexicon.proofs.Common.{◌∙◌, ◌≡◌, ◌⊎◌, Architecture, None, OperatingSystem, Option, Some, Values}
-use Rattle.target_lexicon.specs.Queries.{convention_model_32, convention_model_64, has_ilp32, has_llp64, model_32}
-use Rattle.target_lexicon.specs.Queries.{model_64, model_of_width, other_model_32, other_model_64}
-use Rattle.target_lexicon.specs.declared.calling_convention.CallingConvention.TheVariants.{AppleAarch64, SystemV}
-use Rattle.target_lexicon.specs.declared.data_model.CDataModel.TheVariants.{ILP32, LLP64, LP64}
-use Rattle.target_lexicon.specs.{DataModel.size_bits, declared.calling_convention.CallingConvention.CallingConvention}
-use Rattle.target_lexicon.specs.{DataModel.sizes_of, declared.data_model.CDataModel.CDataModel}
-
--- the two models of 64-bit pointers
-
--- the one model of 32-bit pointers
+use Rattle.target_lexicon.proofs.{AppleAarch64, Architecture, CDataModel, PointerWidth, Values, option_map}
+use Rattle.target_lexicon.proofs.{CallingConvention, OperatingSystem, SystemV, convention_model_32, convention_model_64}
+use Rattle.target_lexicon.proofs.{ILP32, LLP64, LP64, None, Some, Wasm64, false, rules, ◌∙◌, ◌≡◌, ◌⊎◌}
+use Rattle.target_lexicon.proofs.{Option, convention_on, model_of_width, other_model_32, other_model_64, pointer_width}
+use Rattle.target_lexicon.proofs.{Wasm32, ap, has_ilp32, has_llp64, model_32, model_64, size_bits, sizes_of, width_bits}
+use Rattle.target_lexicon.specs.Queries.{data_model}
 
 -- a model has the pointer width by which it is chosen, and is one of three
 chosen : (w : Option PointerWidth) (a : Architecture) (s : OperatingSystem) (m : CDataModel)

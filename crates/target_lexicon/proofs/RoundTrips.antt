@@ -1,33 +1,13 @@
+-- Round trips: a printed string reads as the normal step of its triple, and what follows from that.
+pub mod Printing
+use Printing.Parsing.Names.*
+use Printing.Parsing.*
+use Printing.*
+
 -- The shown parts of a triple with a plain vendor parse as its normal step, if no special string is printed.
-use Rattle.lexicon_fields.proofs.LawOfNames.{NamesAreRead}
-use Rattle.std.proofs.lemmas.Bool.{not-false}
-use Rattle.target_lexicon.proofs.Common
-use Common.{Architecture, BinaryFormat, HasSystemOf, HidesNewlib, normal_step, reading_from, shows_vendor, vendor_name}
-use Common.{Environment, SpecialRow, VendorValue, and_parts, is_plain, shown_names, true≢false, vendor_of, with_value}
-use Common.{HasVersionInRange, and-false, architecture_name, binary_format_name, shows_binary_format, shows_environment}
-use Common.{Ok, OperatingSystem, PrintsAsSpecial, elf_if_unknown, environment_name, reading_of_parts}
-use Common.{PrintsTheEspIdfString, default_binary_format, implied_format, operating_system_name, shows_operating_system}
-use Common.{ShowsOnlyNone, implies_newlib, is_same_format, omits_system, shows_unknowns, special_string}
-use Common.{◌&&◌, ◌||◌, Known, Refusal, Result, Unknown, Values, cons_if, false, is_some, rules, step_of, subst, values}
-use Common.{◌∙◌, ◌∷◌, ◌≡◌, ◌≢◌, ◌⊎◌, Bool, List, None, Some, [], ap, cond, inl, inr, not, refl, sym, true, ℕ}
-use Rattle.target_lexicon.proofs.NamesAcross.{environment_of-format, operating_system_of-environment}
-use Rattle.target_lexicon.proofs.NamesAcross.{operating_system_of-format, system_as_vendor, vendor_of-operating_system}
-use Rattle.target_lexicon.proofs.PrintingLemmas.{names_after_system, printed_names}
-use Rattle.target_lexicon.proofs.SpecialRows.{RowFacts, newlib_system, no_newlib, row_of_system, special_of_fields}
-use Rattle.target_lexicon.proofs.SpecialRows.{special_system, system_of_newlib}
-use Rattle.target_lexicon.proofs.StepCases.{only_none-step, outside-fixed, step_cases}
-use Rattle.target_lexicon.specs.Printing.{omits_unknown_vendor}
-use Rattle.target_lexicon.specs.declared.exception.RoundTripException.TheVariants as exceptions
-use Rattle.target_lexicon.specs.Values.operating_system
-use Rattle.target_lexicon.specs.Values.environment
-use Rattle.target_lexicon.specs.Values.binary_format
-use Rattle.target_lexicon.specs.Field as field
 
 abbrev known_format : BinaryFormat → Bool
 known_format f = not (is_same_format f binary_format.Unknown)
-
-pub is_same_format-is : (f g : BinaryFormat) → is_same_format f g ≡ true → f ≡ g
-is_same_format-is f g h = search rules
 
 shown_by : (same too : Bool) (f g : BinaryFormat) → (same ≡ true → f ≡ g) → cond (not same || too) f g ≡ f
 shown_by same too f g h = search rules
@@ -191,7 +171,7 @@ module _ (names : NamesAreRead) where
       let read : (w : VendorValue)
       → with_value field.OperatingSystem (operating_system_name s) (unread a w operating_system.Unknown)
       ≡ unread a w s = λ w. rw (names.operating_system.reads_back s range) refl in
-      let then = λ (w : VendorValue) (same : v ≡ w). ap (λ (t : Values). reading_from (Some field.Environment) t rest)
+      let others = λ (w : VendorValue) (same : v ≡ w). ap (λ (t : Values). reading_from (Some field.Environment) t rest)
       (read w) ∙ subst (λ (x : VendorValue). reading_from (Some field.Environment) (unread a x s) rest ≡ result)
       same reads in
       prefix a v (shows_vendor (values a v s e f)) _ _ plain
@@ -199,8 +179,8 @@ module _ (names : NamesAreRead) where
       let is = hidden_vendor (values a v s e f) h in
       let other : vendor_of (operating_system_name s) ≡ None = vendor_of-operating_system names s range
       ∙ no_vendor a s e is.1 in
-      rw (other, names.operating_system.reads_back s range) (then (Known Unknown) is.0))
-      (rw (names.operating_system.reads_back s range) (then v refl))
+      rw (other, names.operating_system.reads_back s range) (others (Known Unknown) is.0))
+      (rw (names.operating_system.reads_back s range) (others v refl))
 
   -- if it isn't
   alone-fixed : (a : Architecture) (v : VendorValue) (e : Environment) (f : BinaryFormat) → e ≢ environment.None
@@ -271,3 +251,273 @@ module _ (names : NamesAreRead) where
     -- if no special string is printed, the shown parts parse as the step
     pub parts-round : reading_of_parts (printed_names (values a v s e f)) ≡ Ok (normal_step (values a v s e f))
     parts-round = parts_by (shows_unknowns (values a v s e f)) _ refl refl
+
+-- The printed string of a triple with a plain vendor reads as its normal step.
+
+-- strings without dashes are the parts of the string that joins them
+
+parts_of-join : (p : List ℕ) (ps : List (List ℕ)) → is_dash_free p ≡ true → list_all is_dash_free ps ≡ true
+    → parts_of (join_with_byte dash (p ∷ ps)) ≡ p ∷ ps
+parts_of-join p ps free others = parts_of-joined p ps (rw (free, others) refl)
+
+cons_if-free : (b : Bool) (p : List ℕ) (ps : List (List ℕ)) → is_dash_free p ≡ true → list_all is_dash_free ps ≡ true
+    → list_all is_dash_free (cons_if b p ps) ≡ true
+cons_if-free b p ps free others = search rules
+
+-- the special strings, and the triples that print them
+
+special-round : (t : Values) → HasSpecialFields t → reading (string_of t) ≡ Ok (normal_step t)
+unfolding special_string reading string_of special_values normal_step
+special-round t has = search rules
+
+-- the triple that prints another's special string
+
+abbrev custom_esp : Values
+custom_esp =
+    values (architecture.Riscv32 riscv32.Riscv32imc) (Custom (codes "esp")) operating_system.Espidf environment.Unknown
+    binary_format.Elf
+
+custom_esp-round : reading (string_of custom_esp) ≡ Ok (normal_step custom_esp)
+unfolding reading string_of special_string special_values shown_names normal_step
+custom_esp-round = refl
+
+-- a string that isn't special is parsed by its parts
+by_parts : (text : List ℕ) (ps : List (List ℕ)) (t : Values) (special : Option Values) → special_values text ≡ special
+    → parts_of text ≡ ps → reading_of_parts ps ≡ Ok t
+    → is_known_to_print (Ok t) ≡ false → reading_unless_special special text ≡ Ok t
+by_parts text ps t special is are reads apart = search (rules, row_of_text, false≢true, is_known_to_print)
+
+-- a triple that isn't the one that prints another's special string
+
+no_esp : (t : Values) → ¬ PrintsTheEspIdfString t
+    → is_custom_esp t.architecture t.vendor t.operating_system t.environment t.binary_format ≡ false
+no_esp t apart = search rules
+
+no_esp-known : (a : Architecture) (v : VendorValue) (s : OperatingSystem) (e : Environment) (f : BinaryFormat)
+    → is_custom v ≡ false → is_custom_esp a v s e f ≡ false
+no_esp-known a v s e f known = search rules
+
+no_esp-none : (a : Architecture) (v : VendorValue) (f : BinaryFormat)
+    → is_custom_esp a v operating_system.None_ environment.Unknown f ≡ false
+no_esp-none a v f = search rules
+
+module _ (names : NamesAreRead) (a : Architecture) (v : VendorValue) (s : OperatingSystem) (e : Environment)
+    (f : BinaryFormat) (plain : is_plain v ≡ true) (range : HasVersionInRange s)
+    (none : special_string (values a v s e f) ≡ None) (apart : ¬ PrintsTheEspIdfString (values a v s e f)) where
+  -- the step is none of the triples that print a special string
+  step-apart : is_known_to_print (Ok (normal_step (values a v s e f))) ≡ false
+  unfolding special_string
+  step-apart =
+      let t = values a v s e f in
+      let other : ¬ HasSpecialFields t = λ special. true≢false (sym (special_of_fields t special) ∙ ap is_some none) in
+      step_cases (λ u. is_known_to_print (Ok u) ≡ false) t
+      (λ is. absurd (other is.fields))
+      (λ is. rw (ap is_some none)
+      (no_esp-known a v s environment.Unknown (elf_if_unknown f) (rw ((row_of_system t is.system).1.vendor) refl)))
+      (λ is. absurd (apart is))
+      (λ is. let u = values a v operating_system.None_ environment.Unknown f in
+      rw (no_special u (λ special. true≢false (special_system u special))) (no_esp-none a v f))
+      (λ outside. rw (ap is_some none) (no_esp t apart))
+
+  joined-parts : (b : Bool) → let parts = shown_names b (values a v s e f) in
+      parts_of (join_with_byte dash parts) ≡ parts
+  unfolding shown_names
+  joined-parts b = search (rules, parts_of-join, cons_if-free)
+
+  shown-round : reading (string_of (values a v s e f)) ≡ Ok (normal_step (values a v s e f))
+  unfolding reading string_of
+  shown-round = search (rules, by_parts, printed_names, joined-parts, parts-round, step-apart)
+
+round_by : NamesAreRead → (t : Values) (special : Option (List ℕ)) → is_plain t.vendor ≡ true
+    → HasVersionInRange t.operating_system → special_string t ≡ special
+    → PrintsTheEspIdfString t ⊎ ¬ PrintsTheEspIdfString t → reading (string_of t) ≡ Ok (normal_step t)
+unfolding reading normal_step
+round_by names t special plain range is either =
+    search (rules, special-round, fields_of_special, custom_esp-round, shown-round)
+
+-- the round trip of a plain triple is its normal step
+pub round : NamesAreRead → RoundIsNormalStep
+round names t plain =
+    ((reading_computed (string_of t)).read (normal_step t)).1
+    (round_by names t _ plain.vendor plain.version refl (is_esp t))
+
+pub round_by_step : RoundIsNormalStep → (t u : Values) → is_plain t.vendor ≡ true → HasVersionInRange t.operating_system
+    → u ≡ normal_step t → ParsesAs (string_of t) u
+round_by_step round t u plain range is = search rules
+
+-- The normal step leaves a triple unchanged exactly outside the exceptions.
+
+pub fixed-outside : (t : Values) → normal_step t ≡ t → IsOutside t
+unfolding special_string normal_step
+fixed-outside t same = search rules
+
+-- with the placements
+
+module _ (round : RoundIsNormalStep) where
+  back-outside : (t : Values) → HasVersionInRange t.operating_system → ComesBack t
+      → (is_plain t.vendor ≡ true) × IsOutside t
+  back-outside t range back = search (rules, read_plain, fixed-outside, values_unique)
+
+  outside-back : (t : Values) → HasVersionInRange t.operating_system → is_plain t.vendor ≡ true → IsOutside t
+      → ComesBack t
+  outside-back t range plain outside = search (rules, outside-fixed)
+
+  -- a triple comes back exactly outside the exceptions
+  pub fixed_exactly_outside : FixedExactlyOutsideExceptions
+  fixed_exactly_outside t range = (
+    λ back. let is = back-outside t range back in plain-exception t is.0 is.1,
+    λ found. let is = none-plain_outside t found in outside-back t range is.0 is.1,
+  )
+
+-- A second step changes no triple.
+
+-- with the environment and the format of special strings
+special-stays : (t : Values) → HasSpecialFields t → normal_step (step_of (Some exceptions.PrintsAsSpecial) t)
+    ≡ step_of (Some exceptions.PrintsAsSpecial) t
+unfolding special_string normal_step
+special-stays t has = search rules
+
+esp_idf-stays : let u =
+    values (architecture.Riscv32 riscv32.Riscv32imc) (Known Espressif) operating_system.Espidf environment.Newlib
+    binary_format.Elf in normal_step u ≡ u
+unfolding normal_step special_string
+esp_idf-stays = refl
+
+-- with an unknown environment only the special strings decide whether a triple is unchanged
+unknown-stays : (t : Values) → t.environment ≡ environment.Unknown → ¬ HasSpecialFields t → ¬ PrintsTheEspIdfString t
+    → normal_step t ≡ t
+unknown-stays t unknown special esp = outside-fixed t (record {
+  special = λ is. special is.fields;
+  newlib = λ is. let newlib = is.environment in cc;
+  esp = esp;
+  none = λ is. let none = is.environment in cc;
+})
+
+newlib-stays : (t : Values) → HidesNewlib t → let u = step_of (Some exceptions.HidesNewlib) t in
+    normal_step u ≡ u
+unfolding special_string
+newlib-stays t is =
+    let u = step_of (Some exceptions.HidesNewlib) t in
+    unknown-stays u refl (λ special. is.others (fields_of_special t (special_of_fields u special)))
+    (λ esp. let of = ap (λ x. x.vendor) esp in let known = (row_of_system t is.system).1.vendor in cc)
+
+none-stays : (a : Architecture) (v : VendorValue) (f : BinaryFormat) → let u =
+    values a v operating_system.None_ environment.Unknown f in normal_step u ≡ u
+unfolding special_string
+none-stays a v f = search (rules, unknown-stays)
+
+pub second_changes_none : OneStepSettles
+second_changes_none t = step_cases (λ u. normal_step u ≡ u) t
+    (λ is. special-stays t is.fields)
+    (newlib-stays t)
+    (λ is. rw (ap (λ x. x.architecture) is, ap (λ x. x.operating_system) is) esp_idf-stays)
+    (λ is. none-stays t.architecture t.vendor t.binary_format)
+    (λ outside. outside-fixed t outside)
+
+-- the step keeps a triple plain
+
+step-vendor_plain : (t : Values) → is_plain t.vendor ≡ true → is_plain (normal_step t).vendor ≡ true
+step-vendor_plain t plain =
+    step_cases (λ u. is_plain u.vendor ≡ true) t (λ _. plain) (λ _. plain) (λ _. refl) (λ _. plain) (λ _. plain)
+
+step-version : (t : Values) → HasVersionInRange t.operating_system → HasVersionInRange (normal_step t).operating_system
+step-version t range =
+    step_cases (λ u. HasVersionInRange u.operating_system) t (λ _. range) (λ _. range) (λ _. range) (λ _. tt)
+    (λ _. range)
+
+pub step-plain : (t : Values) → IsPlainTriple t → IsPlainTriple (normal_step t)
+step-plain t plain = record { vendor = step-vendor_plain t plain.vendor; version = step-version t plain.version }
+
+-- a canonical form comes back, so no other one has its string
+
+module _ (round : RoundIsNormalStep) where
+  pub canonical_values-comes_back : (t : Values) → IsPlainTriple t → ComesBack (canonical_values t)
+  canonical_values-comes_back t plain =
+      subst (λ (u : Values). ParsesAs (string_of (canonical_values t)) u) (second_changes_none (normal_step t))
+      (round (canonical_values t) (step-plain (normal_step t) (step-plain t plain)))
+
+  pub canonical_are_keys : CanonicalStringsAreKeys
+  canonical_are_keys = record {
+    comes_back = canonical_values-comes_back;
+    own = λ t u plain_t plain_u same.
+        values_unique (string_of (canonical_values t)) (canonical_values t) (canonical_values u)
+        (canonical_values-comes_back t plain_t)
+        (subst (λ (text : List ℕ). ParsesAs text (canonical_values u)) (sym same)
+        (canonical_values-comes_back u plain_u));
+  }
+
+-- The normal step keeps the answers of the four queries.
+
+-- vendor and format don't matter, and the environment only for the width
+alike_by_width : (a : Architecture) (v w : VendorValue) (s : OperatingSystem) (e d : Environment) (f g : BinaryFormat)
+    → pointer_width (values a v s e f) ≡ pointer_width (values a w s d g)
+    → HaveSameAnswers (values a v s e f) (values a w s d g)
+alike_by_width a v w s e d f g same = search rules
+
+-- on an architecture of 32 bits every environment has pointers of 32 bits
+narrow_width : (t : Values) → architecture_width t.architecture ≡ Some U32 → pointer_width t ≡ Some U32
+narrow_width t narrow = search rules
+
+special-narrow : (t : Values) → PrintsAsSpecial t → architecture_width t.architecture ≡ Some U32
+special-narrow t special = let at = row_of_fields t special.fields in rw (at.1.architecture) at.2.narrow
+
+-- on an architecture that omits an unknown system neither the system nor the environment matters
+alone-alike : (a : Architecture) (v : VendorValue) (f : BinaryFormat) → omits_system a ≡ true
+    → HaveSameAnswers (values a v operating_system.None_ environment.Unknown f)
+    (values a v operating_system.Unknown environment.None f)
+alone-alike a v f omits = search rules
+
+pub kept : (t : Values) → HaveSameAnswers (normal_step t) t
+kept t =
+    let a = t.architecture in let v = t.vendor in let s = t.operating_system in let e = t.environment in
+    let f = t.binary_format in
+    step_cases (λ u. HaveSameAnswers u t) t
+    (λ special. let narrow = special-narrow t special in
+    alike_by_width a v v s _ e _ f (narrow_width (values a v s environment.Newlib binary_format.Elf) narrow
+    ∙ sym (narrow_width t narrow)))
+    (λ newlib. rw newlib.environment (alike_by_width a v v s _ _ _ f refl))
+    (λ esp. rw esp (alike_by_width _ _ _ _ _ _ _ _ refl))
+    (λ none. rw (none.operating_system, none.environment) (alone-alike a v f none.architecture))
+    (λ outside. alike_by_width a v v s e e f f refl)
+
+-- What the string of a triple is read as, or refused as, by the laws alone.
+
+pub read-step : EveryStringHasOneOutcome → RoundIsNormalStep → (t u : Values) → is_plain t.vendor ≡ true
+    → HasVersionInRange t.operating_system
+    → ParsesAs (string_of t) u → u ≡ normal_step t
+read-step texts round t u plain range reads =
+    (texts (string_of t)).values u (normal_step t) reads (round t (record { vendor = plain; version = range }))
+
+pub step-queries : QueriesKept → (t u : Values) → u ≡ normal_step t → HaveSameAnswers u t
+step-queries kept t u step = subst (λ (x : Values). HaveSameAnswers x t) (sym step) (kept t)
+
+pub step-back : OneStepSettles → CanonicalStringsAreKeys → (t u : Values) → is_plain t.vendor ≡ true
+    → HasVersionInRange t.operating_system → u ≡ normal_step t → ComesBack u
+step-back steps keys t u plain range step = search rules
+
+pub read-fixed : EveryStringHasOneOutcome → FixedExactlyOutsideExceptions → (t u : Values)
+    → HasVersionInRange t.operating_system
+    → ParsesAs (string_of t) u → (u ≡ t) ↔ (exception t ≡ None)
+read-fixed texts fixed t u range reads = (
+  λ same. (fixed t range).0 (subst (λ (x : Values). ParsesAs (string_of t) x) same reads),
+  λ none. (texts (string_of t)).values u t reads ((fixed t range).1 none),
+)
+
+pub not_refused : EveryStringHasOneOutcome → RoundIsNormalStep → (t : Values) → is_plain t.vendor ≡ true
+    → HasVersionInRange t.operating_system
+    → (x : Refusal) → IsRefusedAs (string_of t) x → ⊥
+not_refused texts round t plain range x refused =
+    (texts (string_of t)).apart (normal_step t) (round t (record { vendor = plain; version = range })) (x, refused)
+
+-- a refusal comes only if the vendor isn't plain
+pub refused-vendor : EveryStringHasOneOutcome → RoundIsNormalStep → (t : Values) (b : Bool) → is_plain t.vendor ≡ b
+    → HasVersionInRange t.operating_system
+    → (found : Option Refusal) → IfSome found (λ x. IsRefusedAs (string_of t) x)
+    → IfSome found (λ _. is_plain t.vendor ≡ false)
+refused-vendor texts rounds t false is range (Some x) refused = is
+refused-vendor texts rounds t true is range (Some x) refused = absurd (not_refused texts rounds t is range x refused)
+refused-vendor texts rounds t b is range None refused = tt
+
+pub error-refusal : (text printed : List ℕ) (error : ParseError) → text ≡ printed → IsErrorOf text error
+    → IsRefusalOrOutOfMemory printed error
+error-refusal text printed error same is = search rules

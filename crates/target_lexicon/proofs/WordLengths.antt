@@ -1,9 +1,6 @@
 -- The words for byte order, pointer width, calling convention and data model are short.
-use Rattle.lexicon_fields.specs.declared.{endianness.Endianness.Endianness, pointer_width.PointerWidth.PointerWidth}
-use Rattle.target_lexicon.proofs.Common.{length, rules, ◌≤◌}
-use Rattle.target_lexicon.specs.{CallingConvention.convention_name, DataModel.model_name, Queries.endianness_name}
-use Rattle.target_lexicon.specs.{Queries.width_name, declared.calling_convention.CallingConvention.CallingConvention}
-use Rattle.target_lexicon.specs.declared.data_model.CDataModel.{CDataModel}
+use Rattle.target_lexicon.proofs.{CDataModel, CallingConvention, PointerWidth, convention_name, endianness_name, length}
+use Rattle.target_lexicon.proofs.{Endianness, model_name, rules, width_name, ◌≤◌}
 
 pub short-endianness : (e : Endianness) → length (endianness_name e) ≤ 6
 short-endianness e = search rules

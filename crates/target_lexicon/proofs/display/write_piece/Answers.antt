@@ -1,4 +1,4 @@
-use Rattle.target_lexicon.proofs.Common.{rules, has_written_styled_append}
+use Rattle.target_lexicon.proofs.{has_written_styled_append, rules}
 use Rattle.target_lexicon.proofs.display.write_piece.Goals as goal
 
 pub returns-in_ok-write_str-in-Some : goal.returns-in_ok-write_str-in-Some

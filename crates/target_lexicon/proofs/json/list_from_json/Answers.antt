@@ -1,8 +1,7 @@
 -- The loop has the triples of the elements so far; the first element that is refused ends it.
-use Rattle.target_lexicon.proofs.Common.{◌≡◌, arith, true, is_plain}
-use Rattle.lexicon_fields.specs.Vendor.{OwnsCustomString, vendor_value}
-use Rattle.target_lexicon.proofs.Elements.{at_array, elements_read, elements_begun, elements_read-more}
-use Rattle.target_lexicon.proofs.Elements.{elements_refused, all_triples-more}
+use Rattle.target_lexicon.proofs.Elements.{all_triples-more, elements_begun, elements_read-more, elements_refused}
+use Rattle.target_lexicon.proofs.Elements.{at_array, elements_read}
+use Rattle.target_lexicon.proofs.{OwnsCustomString, arith, is_plain, true, vendor_value, ◌≡◌}
 use Rattle.target_lexicon.proofs.json.list_from_json.Goals as goal
 
 pub returns-then-is_err-clause-err : goal.returns-then-is_err-clause-err

@@ -1,7 +1,6 @@
 -- The elements so far parse as the triples so far.
-use Rattle.target_lexicon.proofs.Common.{◌≡◌, All, map, take, true, is_plain, ElementsParseAs, values_of}
-use Rattle.serde_json.specs.View.{items_view}
-use Rattle.lexicon_fields.specs.Vendor.{OwnsCustomString, vendor_value}
+use Rattle.target_lexicon.proofs.{All, ElementsParseAs, OwnsCustomString, is_plain, items_view, values_of, vendor_value}
+use Rattle.target_lexicon.proofs.{map, take, true, ◌≡◌}
 use Rattle.target_lexicon.proofs.json.list_from_json.Given as goal
 
 abbrev pub invariant-loop-i : goal.invariant-loop-i

@@ -1,5 +1,4 @@
-use Rattle.target_lexicon.proofs.Common.{arith}
-use Rattle.std.proofs.lemmas.Grind.{common_steps}
+use Rattle.target_lexicon.proofs.{arith, common_steps}
 use Rattle.target_lexicon.proofs.json.list_to_json.Goals as goal
 
 pub loop-triple-preserved : goal.loop-triple-preserved

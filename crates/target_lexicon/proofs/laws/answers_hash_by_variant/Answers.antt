@@ -1,5 +1,4 @@
-use Rattle.target_lexicon.proofs.Common.{arith}
-use Rattle.lexicon_fields.proofs.HashInputs.{bare_hash_injective}
+use Rattle.target_lexicon.proofs.{arith, bare_hash_injective}
 use Rattle.target_lexicon.specs.contracts.data_model.Size as size
 use Rattle.target_lexicon.specs.contracts.data_model.CDataModel as data_model
 use Rattle.target_lexicon.specs.contracts.calling_convention.CallingConvention as calling_convention

@@ -1,4 +1,4 @@
-use Rattle.target_lexicon.proofs.SettleLemmas.{canonical_are_keys}
+use Rattle.target_lexicon.proofs.RoundTrips.{canonical_are_keys}
 use Rattle.target_lexicon.proofs.laws.canonical_strings_are_keys.Goals as goal
 
 pub returns : goal.returns

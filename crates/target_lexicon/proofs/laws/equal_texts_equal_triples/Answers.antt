@@ -1,5 +1,5 @@
-use Rattle.target_lexicon.proofs.Common.{List, ap, subst, sym, ℕ, ParsesAs, string_of}
-use Rattle.target_lexicon.proofs.UniqueReading.{values_unique}
+use Rattle.target_lexicon.proofs.RoundTrips.Printing.Parsing.{values_unique}
+use Rattle.target_lexicon.proofs.{List, ParsesAs, ap, string_of, subst, sym, ℕ}
 use Rattle.target_lexicon.proofs.laws.equal_texts_equal_triples.Goals as goal
 
 pub returns : goal.returns

@@ -1,8 +1,7 @@
 -- Two errors are equal if both expected the same field and have the same part, or if both are out of memory.
-use Rattle.target_lexicon.proofs.Common.{◌≡◌, List, None, Option, Some, [], ap, refl, ℕ, false≢true, Decides-like}
-use Rattle.target_lexicon.proofs.Common.{bytes_eq-Decides, option_map_or, option_map, string_bytes, bytes_eq, Field}
-use Rattle.target_lexicon.proofs.Common.{Refusal, refusal_with}
-use Rattle.std.specs.Bool.{Decides}
+use Rattle.target_lexicon.proofs.{Decides, Field, List, None, Option, Refusal, Some, bytes_eq, option_map, refl, ℕ, ◌≡◌}
+use Rattle.target_lexicon.proofs.{Decides-like, bytes_eq-Decides, false≢true, option_map_or, refusal_with, string_bytes}
+use Rattle.target_lexicon.proofs.{[], ap}
 use Rattle.target_lexicon.specs.Field as field
 use Rattle.target_lexicon.specs.declared.parse_error.ParseError.TheVariants as error
 use Rattle.target_lexicon.proofs.laws.errors_are_equal_by_value.Goals as goal

@@ -1,10 +1,8 @@
 -- Two explanations are equal if their outcomes and all five sources are, and each of these comparisons decides
 -- equality.
-use Rattle.target_lexicon.proofs.Common.{◌↔◌, ◌≡◌, Bool, Result, ap, rules, Decides-and, Decides-like, IsTrue}
-use Rattle.target_lexicon.proofs.Common.{SourceValues, sources_of, values_of_ref, TripleRef}
-use Rattle.std.specs.Result.{result_eq}
-use Rattle.target_lexicon.specs.ValuesRef.{placed_outcome, placed_refusal}
-use Rattle.target_lexicon.specs.{declared.refusal.Refusal.Refusal, Explanation.source_values}
+use Rattle.target_lexicon.proofs.{Bool, Decides-and, IsTrue, Result, SourceValues, result_eq, rules, sources_of, ◌↔◌}
+use Rattle.target_lexicon.proofs.{Decides-like, TripleRef, placed_outcome, placed_refusal, source_values, values_of_ref}
+use Rattle.target_lexicon.{proofs.ap, proofs.◌≡◌, specs.declared.refusal.Refusal.Refusal}
 use Rattle.target_lexicon.proofs.laws.explanations_are_equal_by_value.Goals as goal
 
 same_sources : (s t : SourceValues) → s.architecture ≡ t.architecture → s.vendor ≡ t.vendor

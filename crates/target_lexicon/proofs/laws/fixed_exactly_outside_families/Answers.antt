@@ -1,4 +1,4 @@
-use Rattle.target_lexicon.proofs.FixedPointLemmas.{fixed_exactly_outside}
+use Rattle.target_lexicon.proofs.RoundTrips.{fixed_exactly_outside}
 use Rattle.target_lexicon.proofs.laws.fixed_exactly_outside_families.Goals as goal
 
 pub returns : goal.returns

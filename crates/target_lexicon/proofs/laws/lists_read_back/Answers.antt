@@ -1,7 +1,5 @@
-use Rattle.target_lexicon.proofs.Common.{◌∙◌, ◌∷◌, ◌≡◌, All, List, [], ap, arith, map, refl, suc, zero}
-use Rattle.target_lexicon.proofs.Common.{ElementsParseAs, ComesBack, EveryStringHasOneOutcome, string_of, Values}
-use Rattle.serde_json.specs.View.{items_of}
-use Rattle.target_lexicon.specs.Json.{json_of}
+use Rattle.target_lexicon.proofs.{All, List, Values, [], ap, arith, map, refl, suc, zero, ◌∙◌, ◌∷◌, ◌≡◌}
+use Rattle.target_lexicon.proofs.{ComesBack, ElementsParseAs, EveryStringHasOneOutcome, items_of, json_of, string_of}
 use Rattle.target_lexicon.proofs.laws.lists_read_back.Goals as goal
 
 list-reads : (ts : List Values) → All ComesBack ts → ElementsParseAs (items_of (map json_of ts)) ts

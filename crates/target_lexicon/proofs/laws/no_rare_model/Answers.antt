@@ -1,4 +1,4 @@
-use Rattle.target_lexicon.proofs.{Common.inl, Common.inr, ModelsKnown.one_of_three}
+use Rattle.target_lexicon.proofs.{ModelsKnown.one_of_three, inl, inr}
 use Rattle.target_lexicon.proofs.laws.no_rare_model.Goals as goal
 
 pub returns : goal.returns

@@ -1,4 +1,4 @@
-use Rattle.target_lexicon.proofs.GreedyPlacement.{placement_least, placement_prefix}
+use Rattle.target_lexicon.proofs.RoundTrips.Printing.Parsing.{placement_least, placement_prefix}
 use Rattle.target_lexicon.proofs.laws.one_least_placement.Goals as goal
 
 pub returns : goal.returns

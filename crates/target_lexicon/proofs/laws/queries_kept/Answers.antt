@@ -1,4 +1,4 @@
-use Rattle.target_lexicon.proofs.QueriesKept.{kept}
+use Rattle.target_lexicon.proofs.RoundTrips.{kept}
 use Rattle.target_lexicon.proofs.laws.queries_kept.Goals as goal
 
 pub returns : goal.returns

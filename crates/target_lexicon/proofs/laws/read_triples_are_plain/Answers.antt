@@ -1,4 +1,4 @@
-use Rattle.target_lexicon.proofs.{Common.arith, ReadValues.read_in_range, ReadValues.read_plain}
+use Rattle.target_lexicon.proofs.{RoundTrips.Printing.read_in_range, RoundTrips.Printing.read_plain, arith}
 use Rattle.target_lexicon.proofs.laws.read_triples_are_plain.Goals as goal
 
 pub returns : goal.returns

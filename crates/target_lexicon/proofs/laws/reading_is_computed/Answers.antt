@@ -1,4 +1,4 @@
-use Rattle.target_lexicon.proofs.ComputedReading.{reading_computed}
+use Rattle.target_lexicon.proofs.RoundTrips.Printing.Parsing.{reading_computed}
 use Rattle.target_lexicon.proofs.laws.reading_is_computed.Goals as goal
 
 pub returns : goal.returns

@@ -1,7 +1,7 @@
-use Rattle.target_lexicon.proofs.Common.{◌≡◌, Err, List, None, Ok, Option, Some, inl, inr, refl, ℕ, MatchOption}
-use Rattle.target_lexicon.proofs.Common.{reading, IsRefusedAs, Refusal, refusal_of, values_of, ParseError}
-use Rattle.target_lexicon.specs.{GreedyReading.ResultsAreComputed, GreedyReading.IsResultOf, Parsing.MayAllocate}
-use Rattle.target_lexicon.proofs.ComputedReading.{reading_computed}
+use Rattle.target_lexicon.proofs.{Err, List, None, Option, Refusal, Some, inl, refl, refusal_of, values_of, ℕ}
+use Rattle.target_lexicon.proofs.{IsRefusedAs, IsResultOf, MatchOption, MayAllocate, Ok, ParseError, ResultsAreComputed}
+use Rattle.target_lexicon.proofs.{RoundTrips.Printing.Parsing.reading_computed, inr, ◌≡◌}
+use Rattle.target_lexicon.specs.GreedyReading.{reading}
 use Rattle.target_lexicon.proofs.laws.results_are_computed.Goals as goal
 
 error-result : (text : List ℕ) (error : ParseError) (other : Option Refusal) → refusal_of error ≡ other

@@ -1,5 +1,4 @@
-use Rattle.target_lexicon.proofs.Common.{ap, Values, values, TripleRef}
-use Rattle.target_lexicon.proofs.HashInputPairs.{both_distinguish}
+use Rattle.target_lexicon.proofs.{HashInputPairs.both_distinguish, TripleRef, Values, ap, values}
 use Rattle.target_lexicon.proofs.laws.triple_refs_hash_by_value.Goals as goal
 
 pub returns : goal.returns

@@ -1,5 +1,4 @@
-use Rattle.target_lexicon.proofs.Common.{ap, Decides-and, Decides-like, values_of}
-use Rattle.target_lexicon.proofs.SameValues.{same_values}
+use Rattle.target_lexicon.proofs.{Decides-and, Decides-like, RoundTrips.Printing.Parsing.same_values, ap, values_of}
 use Rattle.target_lexicon.proofs.laws.triples_are_equal_by_value.Goals as goal
 
 pub returns : goal.returns

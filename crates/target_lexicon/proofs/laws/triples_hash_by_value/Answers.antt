@@ -1,6 +1,5 @@
 -- The five fields are hashed one after the other, and the bytes of each determine it, whatever follows them.
-use Rattle.target_lexicon.proofs.Common.{ap, Values, values, Triple}
-use Rattle.target_lexicon.proofs.HashInputPairs.{both_distinguish}
+use Rattle.target_lexicon.proofs.{HashInputPairs.both_distinguish, Triple, Values, ap, values}
 use Rattle.target_lexicon.proofs.laws.triples_hash_by_value.Goals as goal
 
 pub returns-clause-triple : goal.returns-clause-triple

@@ -1,7 +1,5 @@
-use Rattle.target_lexicon.proofs.Common.{◌++◌, ◌∙◌, append_assoc, codes, rules, has_written_styled_append}
-use Rattle.target_lexicon.proofs.Common.{has_written_styled_of_eq}
-use Rattle.std.specs.Fmt.{decimal}
-use Rattle.target_lexicon.specs.Json.{json_error_value, json_error_line}
+use Rattle.target_lexicon.proofs.{append_assoc, has_written_styled_append, has_written_styled_of_eq, json_error_value}
+use Rattle.target_lexicon.proofs.{codes, decimal, json_error_line, rules, ◌++◌, ◌∙◌}
 use Rattle.target_lexicon.proofs.list_error.write_element.Goals as goal
 
 pub returns : goal.returns

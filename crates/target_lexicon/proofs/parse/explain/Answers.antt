@@ -1,13 +1,10 @@
 -- The parts of a string are read one after the other, each from the dash before it.
-use Rattle.std.specs.Borrow.{Bor}
-use Rattle.target_lexicon.proofs.Common.{Field, IfSome, IsRefusedAfter, List, Option, ParsesAs, PlacedPart, Some, []}
-use Rattle.target_lexicon.proofs.Common.{ap, arith, length, parts_of, placed_from, refusal_value, refusal_with, rules}
-use Rattle.target_lexicon.proofs.Common.{sources_of, subst, sym, values_of_ref, ℕ, ◌+◌, ◌-◌, ◌∷◌, ◌≡◌, ◌≤◌}
-use Rattle.target_lexicon.proofs.{GreedyPlacement.State, GreedyPlacement.Stop, ReadParts.HasRead, ReadParts.state_of}
-use Rattle.target_lexicon.proofs.ReadParts.{taken-read, text-read, text-refused}
-use Rattle.target_lexicon.{proofs.SourceLemmas.refused-in, specs.Explanation.AreInString}
-use Rattle.target_lexicon.specs.Explanation.{AreSourcesOf, part_from, part_value}
-use Rattle.target_lexicon.specs.{Parsing.parts_after, Private.rest_parts, declared.reading.Reading.Reading}
+use Rattle.target_lexicon.proofs.RoundTrips.Printing.Parsing.{HasRead, State, Stop}
+use Rattle.target_lexicon.proofs.RoundTrips.Printing.Parsing.{refused-in, state_of, taken-read, text-read, text-refused}
+use Rattle.target_lexicon.proofs.{AreInString, AreSourcesOf, IsRefusedAfter, refusal_value, refusal_with, values_of_ref}
+use Rattle.target_lexicon.proofs.{Bor, Some, [], ap, sym, ℕ, ◌+◌, ◌-◌, ◌∷◌, ◌≡◌, ◌≤◌}
+use Rattle.target_lexicon.proofs.{Field, IfSome, List, Option, ParsesAs, Reading, arith, length, parts_of, rules, subst}
+use Rattle.target_lexicon.proofs.{PlacedPart, part_from, part_value, parts_after, placed_from, rest_parts, sources_of}
 use Rattle.target_lexicon.proofs.parse.explain.Goals as goal
 
 -- the parts of what follows a dash begin after it

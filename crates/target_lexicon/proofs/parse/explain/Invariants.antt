@@ -1,6 +1,5 @@
-use Rattle.std.specs.Option.{ForSome}
-use Rattle.target_lexicon.proofs.{Common.length, Common.◌≤◌, ReadParts.HasRead, ReadParts.state_of}
-use Rattle.target_lexicon.specs.Private.{rest_parts}
+use Rattle.target_lexicon.proofs.RoundTrips.Printing.Parsing.{HasRead, state_of}
+use Rattle.target_lexicon.proofs.{ForSome, length, rest_parts, ◌≤◌}
 use Rattle.target_lexicon.proofs.parse.explain.Given as goal
 
 abbrev pub invariant-loop-rest : goal.invariant-loop-rest

@@ -1,6 +1,5 @@
-use Rattle.std.{proofs.lemmas.Str.IsCharBoundary-after_ascii, specs.Str.IsUtf8}
-use Rattle.target_lexicon.proofs.Common.{arith, get_or, rules, subst, ◌≡◌}
-use Rattle.target_lexicon.proofs.PartLemmas.{parts_of-cut-at, parts_of-whole}
+use Rattle.target_lexicon.proofs.RoundTrips.Printing.Parsing.{parts_of-cut-at, parts_of-whole}
+use Rattle.target_lexicon.proofs.{IsCharBoundary-after_ascii, IsUtf8, arith, get_or, rules, subst, ◌≡◌}
 use Rattle.target_lexicon.proofs.parse.first_part.Goals as goal
 
 pub range_from-requires : goal.range_from-requires

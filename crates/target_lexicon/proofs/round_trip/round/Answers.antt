@@ -1,9 +1,8 @@
 -- The printed string is that of the triple, so each clause follows from `from_str` and a clause of
 -- `round_trips_are_known`.
-use Rattle.target_lexicon.proofs.Common.{◌∙◌, ◌≡◌, List, refl, subst, ℕ, ParsesAs, string_of, refusal_of, values_of}
-use Rattle.std.proofs.lemmas.Result.{IfOk-weaker, IfErr-weaker}
-use Rattle.target_lexicon.proofs.RoundCall.{read-step, step-queries, step-back, read-fixed, refused-vendor}
-use Rattle.target_lexicon.proofs.RoundCall.{error-refusal}
+use Rattle.target_lexicon.proofs.RoundTrips.{error-refusal, read-fixed, read-step, refused-vendor, step-queries}
+use Rattle.target_lexicon.proofs.{IfErr-weaker, IfOk-weaker, List, ParsesAs, refusal_of, string_of, subst, values_of, ℕ}
+use Rattle.target_lexicon.proofs.{RoundTrips.step-back, refl, ◌∙◌, ◌≡◌}
 use Rattle.target_lexicon.proofs.round_trip.round.Goals as goal
 
 printed : (c : goal.After-drop-text) → c.deref.result.now ≡ string_of (values_of c.args.triple.now)

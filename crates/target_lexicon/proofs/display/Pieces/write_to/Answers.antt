@@ -1,4 +1,4 @@
-use Rattle.target_lexicon.proofs.Common.{rules}
+use Rattle.target_lexicon.proofs.{rules}
 use Rattle.target_lexicon.proofs.display.Pieces.write_to.Goals as goal
 
 pub returns-then-length-out : goal.returns-then-length-out

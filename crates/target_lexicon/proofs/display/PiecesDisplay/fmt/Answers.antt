@@ -1,8 +1,7 @@
 -- Six pieces are written one after the other, and what was written is these pieces so far.
-use Rattle.lexicon_fields.specs.OperatingSystem.{version_suffix}
-use Rattle.std.{proofs.Output.has_written_styled_nil, specs.Fmt.HasWrittenStyled}
-use Rattle.target_lexicon.proofs.Common.{has_written_styled_append, rules}
 use Rattle.target_lexicon.proofs.display.PiecesDisplay.fmt.Goals.{in-Some+in_ok-write_str-2, in_default}
+use Rattle.target_lexicon.proofs.{HasWrittenStyled, has_written_styled_append, has_written_styled_nil, version_suffix}
+use Rattle.target_lexicon.proofs.{rules}
 use Rattle.target_lexicon.proofs.display.PiecesDisplay.fmt.Goals as goal
 
 pub returns-clause-styled : goal.returns-clause-styled

@@ -1,4 +1,4 @@
-use Rattle.target_lexicon.proofs.Common.{rules, string_of}
+use Rattle.target_lexicon.proofs.{rules, string_of}
 use Rattle.target_lexicon.proofs.display.TripleRefDisplay.fmt.Goals as goal
 
 pub returns-clause-writes : goal.returns-clause-writes

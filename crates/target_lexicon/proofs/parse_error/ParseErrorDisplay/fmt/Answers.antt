@@ -1,4 +1,4 @@
-use Rattle.target_lexicon.proofs.Common.{has_written_styled_append, has_written_styled_of_eq, rules}
+use Rattle.target_lexicon.proofs.{has_written_styled_append, has_written_styled_of_eq, rules}
 use Rattle.target_lexicon.proofs.parse_error.ParseErrorDisplay.fmt.Goals as goal
 
 pub returns-in_ok-write_str-in-Some-clause-styled : goal.returns-in_ok-write_str-in-Some-clause-styled

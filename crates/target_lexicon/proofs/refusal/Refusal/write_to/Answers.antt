@@ -1,7 +1,5 @@
-use Rattle.target_lexicon.proofs.Common.{◌++◌, ◌+◌, ◌∙◌, ◌≡◌, ◌≤◌, List, ap, arith, length, refl, subst, sym, ℕ}
-use Rattle.target_lexicon.proofs.Common.{length-append, refusal_value}
-use Rattle.lexicon_fields.specs.Put.{IsPut}
-use Rattle.target_lexicon.specs.Refusal.{refusal_line}
+use Rattle.target_lexicon.proofs.{IsPut, List, arith, length, length-append, refl, refusal_line, refusal_value, subst}
+use Rattle.target_lexicon.proofs.{ap, sym, ℕ, ◌++◌, ◌+◌, ◌∙◌, ◌≡◌, ◌≤◌}
 use Rattle.target_lexicon.proofs.refusal.Refusal.write_to.Goals as goal
 
 pub returns-then-length-out : goal.returns-then-length-out

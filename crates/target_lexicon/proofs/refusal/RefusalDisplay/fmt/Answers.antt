@@ -1,5 +1,4 @@
-use Rattle.target_lexicon.proofs.Common.{rules, has_written_styled_append, has_written_styled_of_eq}
-use Rattle.std.proofs.lemmas.Grind.{put_two}
+use Rattle.target_lexicon.proofs.{has_written_styled_append, has_written_styled_of_eq, put_two, rules}
 use Rattle.target_lexicon.proofs.refusal.RefusalDisplay.fmt.Goals as goal
 
 pub returns-clause-styled : goal.returns-clause-styled

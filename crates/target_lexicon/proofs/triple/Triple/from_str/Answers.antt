@@ -1,7 +1,5 @@
-use Rattle.std.specs.Result.{IsErrAnd}
-use Rattle.target_lexicon.proofs.Common.{Err, IfErr, IsRefusedAs, List, Ok, ParseError, Refusal, Result, Triple, inl}
-use Rattle.target_lexicon.proofs.{Common.values_of, Common.ℕ, Common.◌≡◌, ReadValues.read_plain}
-use Rattle.target_lexicon.specs.{Parsing.IsErrorOf, declared.parse_error.ParseError.TheVariants.OutOfMemory}
+use Rattle.target_lexicon.proofs.{Err, IfErr, List, Ok, RoundTrips.Printing.read_plain, Triple, inl, ℕ, ◌≡◌}
+use Rattle.target_lexicon.proofs.{IsErrAnd, IsErrorOf, IsRefusedAs, OutOfMemory, ParseError, Refusal, Result, values_of}
 use Rattle.target_lexicon.proofs.triple.Triple.from_str.Goals as goal
 
 -- parsing a refused string may run out of memory

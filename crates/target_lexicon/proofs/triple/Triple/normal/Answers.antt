@@ -1,4 +1,4 @@
-use Rattle.target_lexicon.proofs.{Common.arith, TextRoundTrips.round_by_step}
+use Rattle.target_lexicon.proofs.{RoundTrips.round_by_step, arith}
 use Rattle.target_lexicon.proofs.triple.Triple.normal.Goals as goal
 
 pub returns-clause-round : goal.returns-clause-round

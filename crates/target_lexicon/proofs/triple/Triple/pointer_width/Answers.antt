@@ -1,5 +1,4 @@
-use Rattle.target_lexicon.proofs.Common.{subst}
-use Rattle.lexicon_fields.specs.Names.{MatchesLookup}
+use Rattle.target_lexicon.proofs.{MatchesLookup, subst}
 use Rattle.target_lexicon.specs.Queries as spec
 use Rattle.target_lexicon.proofs.triple.Triple.pointer_width.Goals as goal
 

@@ -1,5 +1,5 @@
-use Rattle.target_lexicon.proofs.Common.{◌∙◌, rules, sym}
-use Rattle.target_lexicon.proofs.ModelsKnown.{wasm_32-is, convention_32-is, no_convention_32}
+use Rattle.target_lexicon.proofs.ModelsKnown.{convention_32-is, no_convention_32, wasm_32-is}
+use Rattle.target_lexicon.proofs.{rules, sym, ◌∙◌}
 use Rattle.target_lexicon.proofs.triple_ref.TripleRef.data_model_32.Goals as goal
 
 pub returns-in-Wasm32 : goal.returns-in-Wasm32

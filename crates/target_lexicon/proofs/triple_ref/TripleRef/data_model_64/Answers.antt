@@ -1,5 +1,5 @@
-use Rattle.target_lexicon.proofs.Common.{◌∙◌, rules, sym}
-use Rattle.target_lexicon.proofs.ModelsKnown.{wasm_64-is, convention_64-is, no_convention_64}
+use Rattle.target_lexicon.proofs.ModelsKnown.{convention_64-is, no_convention_64, wasm_64-is}
+use Rattle.target_lexicon.proofs.{rules, sym, ◌∙◌}
 use Rattle.target_lexicon.proofs.triple_ref.TripleRef.data_model_64.Goals as goal
 
 pub returns-in-Wasm64 : goal.returns-in-Wasm64

@@ -1,8 +1,6 @@
-use Rattle.target_lexicon.proofs.Common.{◌≡◌, Err, List, Ok, Result, true, ℕ, IfErr, IfOk, is_plain, IsRefusedAfter}
-use Rattle.target_lexicon.proofs.Common.{SourceValues, ParsesAs, refusal_value, values_of_ref, TripleRef}
-use Rattle.lexicon_fields.specs.VendorRef.{ref_value}
-use Rattle.target_lexicon.specs.{declared.refusal.Refusal.Refusal, Explanation.IsRefusedAt, Explanation.part_value}
-use Rattle.target_lexicon.proofs.ReadValues.{read_plain}
+use Rattle.target_lexicon.proofs.{Err, IfErr, IfOk, List, Ok, ParsesAs, Result, TripleRef, is_plain, ref_value, true, ℕ}
+use Rattle.target_lexicon.proofs.{IsRefusedAfter, IsRefusedAt, SourceValues, part_value, refusal_value, values_of_ref}
+use Rattle.target_lexicon.{proofs.RoundTrips.Printing.read_plain, proofs.◌≡◌, specs.declared.refusal.Refusal.Refusal}
 use Rattle.target_lexicon.proofs.triple_ref.TripleRef.from_str.Goals as goal
 
 plain-if_read : (text : List ℕ) (result : Result TripleRef Refusal)

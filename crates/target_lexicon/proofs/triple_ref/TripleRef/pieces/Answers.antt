@@ -1,5 +1,5 @@
-use Rattle.target_lexicon.proofs.Common.{◌||◌, ◌∙◌, ◌≡◌, ap, not, shows_operating_system, values_of_ref}
-use Rattle.target_lexicon.proofs.PrintingLemmas.{string_of_pieces}
+use Rattle.target_lexicon.proofs.RoundTrips.Printing.{string_of_pieces}
+use Rattle.target_lexicon.proofs.{ap, not, shows_operating_system, values_of_ref, ◌||◌, ◌∙◌, ◌≡◌}
 use Rattle.target_lexicon.proofs.triple_ref.TripleRef.pieces.Goals as goal
 
 pub returns-clause-text : goal.returns-clause-text

@@ -1,5 +1,5 @@
-use Rattle.target_lexicon.proofs.Common.{◌∙◌, subst, sym, ComesBack}
-use Rattle.target_lexicon.proofs.{SettleLemmas.second_changes_none, UniqueReading.values_unique}
+use Rattle.target_lexicon.proofs.RoundTrips.{second_changes_none}
+use Rattle.target_lexicon.proofs.{ComesBack, RoundTrips.Printing.Parsing.values_unique, subst, sym, ◌∙◌}
 use Rattle.target_lexicon.proofs.triple_ref.TripleRef.settle.Goals as goal
 
 pub returns-clause-steps : goal.returns-clause-steps

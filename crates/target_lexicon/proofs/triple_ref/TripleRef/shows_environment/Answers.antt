@@ -1,4 +1,4 @@
-use Rattle.target_lexicon.proofs.{Common.values_of_ref, PrintingLemmas.other_environment_shown}
+use Rattle.target_lexicon.proofs.{RoundTrips.Printing.other_environment_shown, values_of_ref}
 use Rattle.target_lexicon.proofs.triple_ref.TripleRef.shows_environment.Goals as goal
 
 pub returns-in_default : goal.returns-in_default

@@ -1,4 +1,4 @@
-use Rattle.target_lexicon.proofs.Common.{rules, special_string}
+use Rattle.target_lexicon.proofs.{rules, special_string}
 use Rattle.target_lexicon.proofs.triple_ref.TripleRef.special_string.Goals as goal
 
 -- written by tools/names/write: each arm of the special strings

@@ -1,5 +1,5 @@
 -- The arms of the `match` are the lines of `step_of`: each case computes.
-use Rattle.target_lexicon.proofs.Common.{rules, normal_step}
+use Rattle.target_lexicon.proofs.{normal_step, rules}
 use Rattle.target_lexicon.proofs.triple_ref.TripleRef.step.Goals as goal
 
 pub returns-in-Some-PrintsAsSpecial-clause-step : goal.returns-in-Some-PrintsAsSpecial-clause-step

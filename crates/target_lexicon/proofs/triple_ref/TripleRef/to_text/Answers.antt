@@ -1,4 +1,4 @@
-use Rattle.target_lexicon.proofs.Common.{rules, string_of}
+use Rattle.target_lexicon.proofs.{rules, string_of}
 use Rattle.target_lexicon.proofs.triple_ref.TripleRef.to_text.Goals as goal
 
 pub returns : goal.returns

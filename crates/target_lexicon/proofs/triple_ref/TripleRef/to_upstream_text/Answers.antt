@@ -1,4 +1,4 @@
-use Rattle.target_lexicon.proofs.Common.{rules, upstream_string_of}
+use Rattle.target_lexicon.proofs.{rules, upstream_string_of}
 use Rattle.target_lexicon.proofs.triple_ref.TripleRef.to_upstream_text.Goals as goal
 
 pub returns : goal.returns

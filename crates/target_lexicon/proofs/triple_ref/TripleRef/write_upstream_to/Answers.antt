@@ -1,4 +1,4 @@
-use Rattle.target_lexicon.proofs.{Common.rules, Common.upstream_string_of, Lengths.text_with-short}
+use Rattle.target_lexicon.proofs.{RoundTrips.Printing.text_with-short, rules, upstream_string_of}
 use Rattle.target_lexicon.proofs.triple_ref.TripleRef.write_upstream_to.Goals as goal
 
 pub write_to-requires : goal.write_to-requires
