@@ -220,7 +220,6 @@ def antt_lists(table):
         "the law of names of each family": [
             f"{it.word} = part-read_back architecture.{it.variant} spec.as_{it.word} (λ _. refl);"
             for it in table.families],
-        "equality of each family": [f"bare_field-Decides {it}.the_type tt," for it in contracts.values()],
         "hashes of each family": [
             f"one_field variants.{it.variant} (bare_hash_injective {contracts[it.word]}.enum tt (omega arith)),"
             for it in table.families],

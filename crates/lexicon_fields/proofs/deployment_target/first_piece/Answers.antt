@@ -1,4 +1,4 @@
-use Rattle.lexicon_fields.proofs.{Common.arith, VersionsReadBack.pieces_of-first, VersionsReadBack.pieces_of-whole}
+use Rattle.lexicon_fields.proofs.Names.{arith, pieces_of-first, pieces_of-whole}
 use Rattle.lexicon_fields.proofs.deployment_target.first_piece.Goals as goal
 
 pub returns-in-Some : goal.returns-in-Some

@@ -1,21 +1,15 @@
 -- Three numbers with dots between are put one after the other: what is put is the name of the version, fits, and is
 -- ASCII.
-use Rattle.lexicon_fields.proofs.Common.{DeploymentTarget, IsVersionInRange, List, Puts, [], arith, decimal, dot, rules}
-use Rattle.lexicon_fields.proofs.Common.{version_name, ℕ, ◌<◌, ◌^◌, ◌∙◌, ◌∷◌, ◌≡◌}
-use Rattle.lexicon_fields.proofs.{ParsedSystems.length-version, ParsedSystems.numbers-short, Puts.put_taken}
-use Rattle.lexicon_fields.proofs.Puts.{puts_then}
-use Rattle.std.proofs.lemmas.{Fmt.IsAscii-decimal, Str.IsAscii-append, Str.IsUtf8-from_ascii}
-use Rattle.std.specs.Str.{IsAscii, IsUtf8}
+use Rattle.lexicon_fields.proofs.Names.{DeploymentTarget, IsVersionInRange, length-version, numbers-short, version_name}
+use Rattle.lexicon_fields.proofs.Names.{List, Puts, arith, decimal, dot, put_taken, puts_then, rules, ℕ, ◌∙◌, ◌∷◌, ◌≡◌}
+use Rattle.std.{proofs.lemmas.Fmt.IsAscii-decimal, proofs.lemmas.Str.IsUtf8-from_ascii, specs.Str.IsUtf8}
+use Rattle.std.proofs.lemmas.Str.{IsAscii-append}
 use Rattle.lexicon_fields.proofs.deployment_target.version_text.Goals as goal
 
 -- digits and dots are UTF-8
 version-utf8 : (v : DeploymentTarget) → IsVersionInRange v → IsUtf8 (version_name v)
 version-utf8 v (major, minor, patch) =
-    let point : IsAscii (dot ∷ []) = search rules in
-    let small = λ (n : ℕ) (fits : n < 2 ^ 64). IsAscii-append (dot ∷ []) (decimal n) point (IsAscii-decimal n fits) in
-    IsUtf8-from_ascii (version_name v)
-    (IsAscii-append (decimal v.major) _ (IsAscii-decimal v.major (omega arith))
-    (IsAscii-append (dot ∷ decimal v.minor) _ (small v.minor (omega arith)) (small v.patch (omega arith))))
+    IsUtf8-from_ascii (version_name v) (search (rules, arith, IsAscii-append, IsAscii-decimal) depth 8)
 
 -- the three numbers put one after the other are the version
 version-put : (v : DeploymentTarget) (major : ℕ) {old first second now : List ℕ} {i j k : ℕ} → major ≡ v.major

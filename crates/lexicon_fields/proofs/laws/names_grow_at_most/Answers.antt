@@ -1,12 +1,11 @@
 -- A parsed value prints the string itself, except for aliases and versions, whose growth has a bound.
-use Rattle.lexicon_fields.proofs.Common.{Custom, Known, MatchOption-at_some, ap, architecture_name, architecture_of}
-use Rattle.lexicon_fields.proofs.Common.{binary_format_name, binary_format_of, cond_some, environment_name}
-use Rattle.lexicon_fields.proofs.Common.{environment_of, known_vendor_name, known_vendor_of, known_vendors, leb-true}
-use Rattle.lexicon_fields.proofs.Common.{length, nat_le, refl, sym, vendor_name, vendor_of, ◌+◌, ◌≡◌}
-use Rattle.lexicon_fields.proofs.LookUpLemmas.{holds-if_read, option_map-holds, option_or-holds, value_named-all}
-use Rattle.lexicon_fields.proofs.{LookUpLemmas.value_named-named_values, ParsedSystems.operating_system-read}
-use Rattle.lexicon_fields.specs.{Architecture.architecture_texts, BinaryFormat.binary_format_values}
-use Rattle.lexicon_fields.specs.{Environment.environment_values, Vendor.custom_vendor_of, Vendor.is_admitted}
+use Rattle.lexicon_fields.proofs.Names.{MatchOption-at_some, cond_some, operating_system-read, value_named-named_values}
+use Rattle.lexicon_fields.proofs.Names.{architecture_name, binary_format_name, binary_format_of, known_vendor_name, sym}
+use Rattle.lexicon_fields.proofs.Names.{architecture_of, environment_name, known_vendor_of, option_map-holds, vendor_of}
+use Rattle.lexicon_fields.proofs.Names.{environment_of, holds-if_read, known_vendors, option_or-holds, value_named-all}
+use Rattle.lexicon_fields.proofs.Names.{Custom, Known, ap, leb-true, length, nat_le, refl, vendor_name, ◌+◌, ◌≡◌}
+use Rattle.lexicon_fields.specs.{Architecture.architecture_texts, BinaryFormat.binary_format_values, Vendor.is_admitted}
+use Rattle.lexicon_fields.specs.{Environment.environment_values, Vendor.custom_vendor_of}
 use Rattle.lexicon_fields.proofs.laws.names_grow_at_most.Goals as goal
 
 pub returns : goal.returns

@@ -1,4 +1,4 @@
-use Rattle.lexicon_fields.proofs.{Common.refl, LawOfNames.names_are_read, NamesReadBack.part-read_back}
+use Rattle.lexicon_fields.proofs.Names.{names_are_read, part-read_back, refl}
 use Rattle.lexicon_fields.specs.SubArchitecture as spec
 use Rattle.lexicon_fields.specs.declared.architecture.Architecture.TheVariants as architecture
 use Rattle.lexicon_fields.proofs.laws.names_read_back.Goals as goal

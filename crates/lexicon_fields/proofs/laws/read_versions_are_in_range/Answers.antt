@@ -1,4 +1,4 @@
-use Rattle.lexicon_fields.proofs.ParsedSystems.{operating_system-read}
+use Rattle.lexicon_fields.proofs.Names.{operating_system-read}
 use Rattle.lexicon_fields.proofs.laws.read_versions_are_in_range.Goals as goal
 
 pub returns : goal.returns

@@ -1,4 +1,4 @@
-use Rattle.lexicon_fields.proofs.{RowTexts.length-row_texts, RowTexts.row_texts_sorted, RowLemmas.rows-complete}
+use Rattle.lexicon_fields.proofs.Names.{length-row_texts, row_texts_sorted, rows-complete}
 use Rattle.lexicon_fields.proofs.laws.rows_are_sorted_and_complete.Goals as goal
 
 pub returns : goal.returns

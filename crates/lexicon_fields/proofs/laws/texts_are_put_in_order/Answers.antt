@@ -1,4 +1,4 @@
-use Rattle.lexicon_fields.proofs.Puts.{puts_first, puts_then}
+use Rattle.lexicon_fields.proofs.Names.{puts_first, puts_then}
 use Rattle.lexicon_fields.proofs.laws.texts_are_put_in_order.Goals as goal
 
 pub returns : goal.returns

@@ -1,8 +1,8 @@
 -- Derived equality compares the variants and then the fields, and each of these comparisons decides equality.
-use Rattle.lexicon_fields.proofs.Common.{refl, rules, bytes_eq-Decides}
-use Rattle.std.proofs.lemmas.Bool.Decides.{Decides-like, Decides-and}
-use Rattle.lexicon_fields.proofs.EqualByValue.{bare-Decides, bare_field-Decides, enum-Decides, one_field-Decides}
-use Rattle.lexicon_fields.proofs.EqualByValue.{option_eq-Decides, version-Decides}
+use Rattle.lexicon_fields.proofs.Values.{bare_field-Decides, one_field-Decides, option_eq-Decides, version-Decides}
+use Rattle.lexicon_fields.proofs.{Names.bytes_eq-Decides, Names.rules, Values.bare-Decides, Values.enum-Decides}
+use Rattle.std.proofs.lemmas.Bool.Decides.{Decides-and, Decides-like}
+use Rattle.lexicon_fields.proofs.Names.{refl}
 use Rattle.lexicon_fields.specs.contracts.architecture.Architecture as architecture
 use Rattle.lexicon_fields.specs.contracts.operating_system.OperatingSystem as operating_system
 use Rattle.lexicon_fields.specs.contracts.architecture as contracts
@@ -13,20 +13,7 @@ use Rattle.lexicon_fields.proofs.laws.values_are_equal_by_variant_and_fields.Goa
 
 pub returns-clause-architecture : goal.returns-clause-architecture
 returns-clause-architecture c =
-    enum-Decides architecture.enum _ refl (search (
-      rules,
-      -- written by tools/names/write: equality of each family
-      bare_field-Decides contracts.arm.ArmArchitecture.the_type tt,
-      bare_field-Decides contracts.aarch64.Aarch64Architecture.the_type tt,
-      bare_field-Decides contracts.families.X86_32Architecture.the_type tt,
-      bare_field-Decides contracts.families.Mips32Architecture.the_type tt,
-      bare_field-Decides contracts.families.Mips64Architecture.the_type tt,
-      bare_field-Decides contracts.families.Riscv32Architecture.the_type tt,
-      bare_field-Decides contracts.families.Riscv64Architecture.the_type tt,
-      bare_field-Decides contracts.families.CleverArchitecture.the_type tt,
-      bare_field-Decides contracts.families.Z80Architecture.the_type tt,
-      -- end of what is written
-    ))
+    enum-Decides architecture.enum _ refl (search (rules, bare_field-Decides))
 
 pub returns-clause-operating_system : goal.returns-clause-operating_system
 returns-clause-operating_system c =
@@ -34,17 +21,7 @@ returns-clause-operating_system c =
 
 pub returns-clause-fixed_row : goal.returns-clause-fixed_row
 returns-clause-fixed_row c x y =
-    Decides-like _
-    (λ same. record {
-      text = same.0;
-      architecture = same.1.0;
-      vendor = same.1.1.0;
-      operating_system = same.1.1.1.0;
-      environment = same.1.1.1.1.0;
-      binary_format = same.1.1.1.1.1;
-    })
-    (λ same.
-    (same.text, (same.architecture, (same.vendor, (same.operating_system, (same.environment, same.binary_format))))))
+    Decides-like _ (λ same. search) (λ same. search)
     (Decides-and _ _ (bytes_eq-Decides x.text.now y.text.now)
     (Decides-and _ _ (option_eq-Decides _ (returns-clause-architecture c) x.architecture y.architecture)
     (Decides-and _ _ (option_eq-Decides _ (bare-Decides known_vendor.the_type tt) x.vendor y.vendor)

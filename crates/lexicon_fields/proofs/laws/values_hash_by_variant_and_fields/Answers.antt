@@ -1,12 +1,12 @@
 -- A value feeds a hasher its variant and then its fields, and these bytes determine both, whatever follows them.
-use Rattle.lexicon_fields.proofs.Common.{Custom, DeploymentTarget, HashInjectiveOn, HashWrites, IfSome}
-use Rattle.lexicon_fields.proofs.Common.{IsVersionInRange, Known, Option, VendorValue, ap, arith, known_vendors, length}
-use Rattle.lexicon_fields.proofs.Common.{refl, sym, tag_of, usize, ◌++◌, ◌∙◌, ◌≡◌}
-use Rattle.lexicon_fields.proofs.HashInputs.{Distinguishes, bare_hash_injective, enum_hash_injective, first_byte}
-use Rattle.lexicon_fields.proofs.HashInputs.{first_write, hash_injective_on, one_field, same_u16, variants_distinguish}
-use Rattle.lexicon_fields.{proofs.HashInputs.writes_after_first, specs.Vendor.custom_string, specs.Vendor.vendor_value}
+use Rattle.lexicon_fields.proofs.Names.{DeploymentTarget, HashInjectiveOn, IsVersionInRange, VendorValue, known_vendors}
+use Rattle.lexicon_fields.proofs.Names.{Custom, HashWrites, IfSome, Known, Option, arith, length, refl, tag_of, usize}
+use Rattle.lexicon_fields.proofs.Values.{Distinguishes, bare_hash_injective, enum_hash_injective, variants_distinguish}
+use Rattle.lexicon_fields.proofs.Values.{first_byte, first_write, hash_injective_on, one_field, writes_after_first}
 use Rattle.lexicon_fields.specs.declared.vendor.{CustomVendor.CustomVendor, Vendor.Vendor}
-use Rattle.std.specs.Hash.{le_bytes, option, str}
+use Rattle.lexicon_fields.proofs.Names.{ap, sym, ◌++◌, ◌∙◌, ◌≡◌}
+use Rattle.{lexicon_fields.specs.Vendor.custom_string, lexicon_fields.specs.Vendor.vendor_value, std.specs.Hash.option}
+use Rattle.{lexicon_fields.proofs.Values.same_u16, std.specs.Hash.le_bytes, std.specs.Hash.str}
 use Rattle.lexicon_fields.specs.declared.architecture.Architecture.TheVariants as variants
 use Rattle.lexicon_fields.specs.declared.operating_system.OperatingSystem.TheVariants as systems
 use Rattle.lexicon_fields.specs.contracts.vendor.VendorHash.TheImpl as vendor_hash

@@ -1,11 +1,11 @@
 -- A binary search: no row before `low` or after the `size` rows from there has the string, and the ticks so far are
 -- those of the way to them.
-use Rattle.lexicon_fields.proofs.Common.{List, ap, architecture_of, arith, binary_format_of, environment_of}
-use Rattle.lexicon_fields.proofs.Common.{fixed_operating_system_of, has_row, known_vendor_of, name_values, refl}
-use Rattle.lexicon_fields.proofs.Common.{row_count, row_texts, subst, sym, true, ℕ, ◌+◌, ◌/◌, ◌<◌, ◌≡◌}
-use Rattle.lexicon_fields.proofs.RowLemmas.{no_row-above, no_row-below, no_row-outside, row-exists}
-use Rattle.lexicon_fields.proofs.{RowReads.text-is, RowReads.values-are, RowTexts.row_text-is, SearchSteps.found-there}
-use Rattle.lexicon_fields.proofs.SearchSteps.{none-left, on-the-way-first, on-the-way-greater, on-the-way-less}
+use Rattle.lexicon_fields.proofs.Names.{binary_format_of, environment_of, fixed_operating_system_of, on-the-way-greater}
+use Rattle.lexicon_fields.proofs.Names.{architecture_of, known_vendor_of, on-the-way-first, on-the-way-less, row-exists}
+use Rattle.lexicon_fields.proofs.Names.{found-there, name_values, no_row-above, no_row-below, no_row-outside, none-left}
+use Rattle.lexicon_fields.proofs.Names.{arith, has_row, row_count, row_text-is, row_texts, subst, text-is, values-are}
+use Rattle.lexicon_fields.proofs.Names.{List, refl, sym, true, ◌+◌, ◌/◌, ◌<◌}
+use Rattle.lexicon_fields.proofs.Names.{ap, ℕ, ◌≡◌}
 use Rattle.lexicon_fields.proofs.table.row_of.Goals as goal
 
 pub loop-size-init : goal.loop-size-init

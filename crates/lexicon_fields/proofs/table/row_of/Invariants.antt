@@ -1,5 +1,4 @@
-use Rattle.lexicon_fields.proofs.Common.{◌+◌, ◌<◌, ◌≢◌, ◌≤◌, ℕ, row_count, row_text}
-use Rattle.lexicon_fields.proofs.SearchSteps.{IsOnTheWay}
+use Rattle.lexicon_fields.proofs.Names.{IsOnTheWay, row_count, row_text, ℕ, ◌+◌, ◌<◌, ◌≢◌, ◌≤◌}
 use Rattle.lexicon_fields.proofs.table.row_of.Given as goal
 
 abbrev pub invariant-loop-size : goal.invariant-loop-size

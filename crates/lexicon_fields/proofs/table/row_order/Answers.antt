@@ -1,12 +1,10 @@
 -- The order of two different prefix keys is that of the strings; with equal keys the order of the lengths is, or of the
 -- strings.
-use Rattle.lexicon_fields.proofs.Common.{Equal, Iter, List, ap, arith, drop, get_or, nat_cmp, prefix_key_of, refl}
-use Rattle.lexicon_fields.proofs.Common.{row_count, row_text, row_texts, sym, ℕ, ◌<◌, ◌∙◌, ◌≡◌, ◌≤◌, ◌⊎◌}
-use Rattle.lexicon_fields.proofs.PrefixKeyLemmas.{greater_by_key, less_by_key, order_of_rests, order_of_same_key}
-use Rattle.lexicon_fields.proofs.RowReads.{key-is, row_text-bytes, text-is}
-use Rattle.lexicon_fields.specs.declared.table.TheConstants.{KEYS}
+use Rattle.lexicon_fields.proofs.Names.{greater_by_key, less_by_key, order_of_rests, order_of_same_key, row_text-bytes}
+use Rattle.lexicon_fields.proofs.Names.{get_or, key-is, nat_cmp, prefix_key_of, row_count, row_text, row_texts, text-is}
+use Rattle.lexicon_fields.proofs.Names.{Equal, Iter, List, ap, arith, drop, refl, sym, ℕ, ◌<◌, ◌∙◌, ◌≡◌, ◌≤◌, ◌⊎◌}
 use Rattle.std.proofs.lemmas.{Iterator.Search.cmp_from_yields_List, Iterator.YieldsList-from_slice, List.take_rest}
-use Rattle.std.specs.Cmp.{nat_cmp_is}
+use Rattle.{lexicon_fields.specs.declared.table.TheConstants.KEYS, std.specs.Cmp.nat_cmp_is}
 use Rattle.lexicon_fields.proofs.table.row_order.Goals as goal
 
 pub returns-then-own_key-key-clause-order : goal.returns-then-own_key-key-clause-order

@@ -1,4 +1,4 @@
-use Rattle.lexicon_fields.proofs.{Common.arith, RowLemmas.no_name_without_row}
+use Rattle.lexicon_fields.proofs.Names.{arith, no_name_without_row}
 use Rattle.lexicon_fields.proofs.architecture.Architecture.from_str.Goals as goal
 
 pub returns-in-None : goal.returns-in-None

@@ -1,9 +1,8 @@
 -- Each way out of the code is one case of `version_of`: how many pieces there are, and whether each is a number in
 -- range.
-use Rattle.lexicon_fields.proofs.Common.{◌∙◌, ap, refl, sym}
-use Rattle.lexicon_fields.specs.Version.{version_of_pieces}
-use Rattle.lexicon_fields.proofs.VersionsReadBack.{number_read, pieces-last, pieces-more, pieces_of-some, no_major}
-use Rattle.lexicon_fields.proofs.VersionsReadBack.{no_minor, no_patch, too_many_pieces}
+use Rattle.lexicon_fields.proofs.Names.{arith, number_read, pieces-last, pieces-more, pieces_of-some, too_many_pieces}
+use Rattle.lexicon_fields.proofs.Names.{no_major, no_minor, no_patch, refl, sym, ◌∙◌}
+use Rattle.lexicon_fields.{proofs.Names.ap, specs.Version.version_of_pieces}
 use Rattle.lexicon_fields.proofs.deployment_target.DeploymentTarget.from_text.Goals as goal
 
 pub returns-in_default : goal.returns-in_default
@@ -44,12 +43,7 @@ returns-in_default-patch c =
     sym (no_patch c.args.text.now _ _ _ _ pieces missing)
 
 pub returns-in-Some-after_patch : goal.returns-in-Some-after_patch
-returns-in-Some-after_patch c =
-    let third = pieces-more _ _ _ _ _ c.first_piece-3.ensures c.in-Some-after_patch.is refl in
-    let pieces =
-    pieces-more _ _ _ _ _ c.first_piece.ensures c.in-Some.is
-    (pieces-more _ _ _ _ _ c.first_piece-2.ensures c.in-Some-after_minor.is third) in
-    sym (too_many_pieces c.args.text.now _ _ _ _ pieces (pieces_of-some c.in-Some-after_patch.field-0.now))
+returns-in-Some-after_patch c = grind (arith, pieces-last, pieces-more, pieces_of-some, too_many_pieces)
 
 pub returns-in-None : goal.returns-in-None
 returns-in-None c =

@@ -1,14 +1,13 @@
 -- `new` makes the struct of no bytes, with count 0.
-use Rattle.lexicon_fields.proofs.Common.{◌∷◌, [], refl}
-use Rattle.std.proofs.raw_atomic.Walks.{proved}
-use mir.Val.{vstruct, vnil}
-use base.Logic.{via, fst∗, emp}
+use Rattle.{lexicon_fields.proofs.steps.Steps.new.Statement.statement, std.proofs.raw_atomic.Walks.proved}
+use Rattle.lexicon_fields.proofs.Names.{[], refl, ◌∷◌}
+use base.Logic.{emp, fst∗, via}
 use contract.Running.{tables}
-use types.{Kit.‵, Kit.raw, Kit.◌$◌, Kit.◌∵◌, Kit.!, Kit.qed, Kit.move, Kit.suffices, Kit.done, Run.no_more, Run.returns}
-use types.{Run.enter, Part.agg, ByLocal.alloc_all, ByLocal.pass_all, ByLocal.free_all, ByLocal.look_at, ByLocal.sets}
-use denote.{RattleType.owns, Shadow.pure_i, Triple.Entry.alive, Triple.Walked.says, Triple.Walked.Stays}
-use denote.{Triple.Walked.walk_of, Triple.Walked.ends_at}
-use Rattle.lexicon_fields.proofs.steps.Steps.new.Statement.{statement}
+use denote.Triple.{Entry.alive, Walked.Stays, Walked.ends_at, Walked.says, Walked.walk_of}
+use denote.{RattleType.owns, Shadow.pure_i}
+use mir.Val.{vnil, vstruct}
+use types.{ByLocal.alloc_all, ByLocal.free_all, ByLocal.look_at, ByLocal.pass_all, ByLocal.sets, Kit.done, Kit.suffices}
+use types.{Kit.!, Kit.move, Kit.qed, Kit.raw, Kit.‵, Kit.◌$◌, Kit.◌∵◌, Part.agg, Run.enter, Run.no_more, Run.returns}
 use Rattle.lexicon_fields.specs.contracts.steps.Steps.new as f
 use Rattle.lexicon_fields.specs.contracts.steps.Steps as made
 use Rattle.lexicon_fields.proofs.steps.Steps.new.Code as code

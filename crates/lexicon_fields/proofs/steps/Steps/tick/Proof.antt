@@ -1,14 +1,13 @@
 -- `tick` adds one to the count, which has no bytes.
-use Rattle.lexicon_fields.proofs.{Common.[], Common.refl, Common.◌+◌, Common.◌∷◌, steps.Steps.tick.Statement.statement}
-use Rattle.lexicon_fields.specs.contracts.steps.Steps.{the_row as R}
-use Rattle.std.proofs.raw_atomic.Walks.{proved}
+use Rattle.lexicon_fields.proofs.{Names.[], Names.refl, Names.◌+◌, Names.◌∷◌, steps.Steps.tick.Statement.statement}
+use denote.Triple.Walked.{Goes-ref, Stays, ends_at, says, stay_ref, walk_of}
+use types.Kit.{ !, done, feq_i, frame, fsplit3, group, join, keep, move, qed, split, suffices, ‵, ◌$◌, ◌∵◌, ◌⊛◌}
+use Rattle.{lexicon_fields.specs.contracts.steps.Steps.the_row as R, std.proofs.raw_atomic.Walks.proved}
 use base.Fml.{flft, ftrue}
 use denote.{Ref.MutRef, Ref.mut_Tells, Ref.mut_vals, Signature.plain, Steps.closes, Steps.nothing, Steps.opens}
-use denote.Triple.Walked.{Goes-ref, Stays, ends_at, says, stay_ref, walk_of}
 use mir.{Syntax.named, Val.vunit}
-use types.{ByLocal.alloc_all, ByLocal.free_all, ByLocal.look_at, ByLocal.pass_all, ByLocal.sets, Kit.!, Kit.done}
-use types.Kit.{feq_i, frame, fsplit3, group, join, keep, move, qed, split, suffices, ‵, ◌$◌, ◌∵◌, ◌⊛◌}
-use types.Run.{enter, of_opd, returns, unit_lit}
+use types.{ByLocal.alloc_all, ByLocal.free_all, ByLocal.look_at, ByLocal.pass_all, ByLocal.sets, Run.unit_lit}
+use types.Run.{enter, of_opd, returns}
 use Rattle.lexicon_fields.specs.contracts.steps.Steps.tick as f
 use Rattle.lexicon_fields.proofs.steps.Steps.tick.Code as code
 

@@ -1,8 +1,5 @@
-use Rattle.lexicon_fields.proofs.Common.{rules}
-use Rattle.lexicon_fields.proofs.RowLemmas.{system_without_row}
-use Rattle.lexicon_fields.proofs.VendorsReadBack.{without_row_read, formless_read}
+use Rattle.lexicon_fields.proofs.Names.{formless_read, rules, system_without_row, without_row_read}
 use Rattle.lexicon_fields.proofs.vendor_ref.VendorRef.from_str.Goals as goal
-use goal.{else-has_vendor_form-via-then-has_vendor_form+else-is_none, else-has_vendor_form-via-else-has_vendor_form}
 
 pub returns-then-is_none-clause-ok : goal.returns-then-is_none-clause-ok
 returns-then-is_none-clause-ok c = search (rules, system_without_row, without_row_read)

@@ -1,8 +1,8 @@
 -- The names that the proofs of this crate cite, passed on from one place. Declares nothing.
 use Rattle.lexicon_fields.specs as fields
 use Rattle.target_lexicon.specs
-pub use Rattle.lexicon_fields.{proofs.HashInputs.bare_hash_injective, specs.declared.endianness.Endianness.Endianness}
-pub use Rattle.lexicon_fields.{proofs.LawOfNames.NamesAreRead, proofs.LawOfNames.names_are_read, specs.Put.IsPut}
+pub use Rattle.lexicon_fields.{proofs.Values.bare_hash_injective, specs.declared.endianness.Endianness.Endianness}
+pub use Rattle.lexicon_fields.{proofs.Names.NamesAreRead, proofs.Names.names_are_read, specs.Put.IsPut}
 pub use Rattle.serde_json.specs.Data.{Items}
 pub use Rattle.serde_json.specs.{Find.get_item, View.items_of, View.items_view, View.view, declared.value.Value.Value}
 pub use Rattle.std.proofs.Common.{All, Err, inl, inr, map, not, refl, suc, sym, take, true, zero, ◌&&◌, ◌++◌, ◌+◌, ◌||◌}
