@@ -6,7 +6,7 @@ from collections import namedtuple
 
 from mir_grammar import Function, Unknown, split, within
 from mir_std import METHODS, STD
-from mir_types import BITS, TEXTS, arguments, of_call, referred, strip
+from mir_types import BITS, TEXTS, arguments, of_call, referred, strip, wrapped
 
 Con = namedtuple("Con", "name args")  # a constructor of values; a tuple has no name, and a closure's isn't Coq's
 Mut = namedtuple("Mut", "cell path")  # a mutable borrow
@@ -302,8 +302,6 @@ class Body:
                 raise Unknown(f"the call of {path}, which returns no {it.result}")
             return self.own(it, values, env)
         is_borrow = isinstance(values[0], Mut)
-        if path.startswith("std::mem::discriminant::<"):
-            return self.code(Tag(values[0], operands[0][1]))
         if path == "<[u8] as std::ops::IndexMut<std::ops::Range<usize>>>::index_mut" and is_borrow:
             low, high = map(self.code, self.parts(values[1], types[1]).args)
             self.emit(f"between {self.code(self.read(values[0], env))} {low} {high}")
@@ -357,15 +355,12 @@ class Body:
 
     def method(self, trait, name, type):
         """A trait's method as a function of Coq: the crate's, or std's, which is by those of the type's parts."""
-        type = strip(type)
+        if inner := wrapped(type):  # a clone of a reference is the reference
+            return "Some" if name == "clone" and type[0] == "&" else self.method(trait, name, inner)
         if it := self.crate.find((trait, type, name), [f"&{type}"] * 2 if name == "eq" else None):
             return f"({self.crate.write(it)} fuel)"
         if leaf := METHODS.get((trait, name), {}).get(type):
             return f"(total {leaf})"
-        if m := re.fullmatch(r"std::mem::Discriminant<(.*)>", type):  # a number, of its type in the own hash
-            own = self.crate.find((trait, m[1], name))
-            local = re.search(r"_(\d+) = discriminant\(\(\*_1\)\)", own.text)[1]
-            return self.method(trait, name, own.types[int(local)])
         if type[0] == "(" and name == "cmp":
             first, *others = [self.method(trait, name, it) for it in split(type[1:-1])]
             for it in others:

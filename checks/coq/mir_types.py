@@ -13,13 +13,19 @@ PLAIN = {"bool": "bool", "char": "ℕ", "()": "unit", "std::fmt::Error": "unit",
 STD = {"option": [("None", 0), ("Some", 1)], "Result": [("Result__Ok", 1), ("Result__Err", 1)],
        "ControlFlow": [("ControlFlow__Continue", 1), ("ControlFlow__Break", 1)],
        "comparison": [("Eq", 0), ("Gt", 0), ("Lt", 0)]}
-WRAPPERS = r"&(?!mut )|\*const |std::boxed::Box<(.*)>$|std::borrow::Cow<(.*)>$"
+WRAPPERS = r"&(?!mut )(.*)|std::boxed::Box<(.*)>|std::borrow::Cow<(.*)>"
+
+
+def wrapped(type):
+    """The type of what a reference, a box or a `Cow` has, or none."""
+    m = re.fullmatch(WRAPPERS, type)
+    return m and next(filter(None, m.groups()))
 
 
 def strip(type):
     """A type without what refers to it or owns it: these are its value."""
-    while m := re.match(WRAPPERS, type):
-        type = next(filter(None, m.groups()), None) or type[m.end():]
+    while inner := wrapped(type) or type.startswith("*const ") and type[7:]:
+        type = inner
     return type
 
 
