@@ -10,7 +10,7 @@ from pathlib import Path
 
 import mir
 from manifest import check_manifest
-from mir_grammar import ITEM, Unknown, outside, read_hir
+from mir_grammar import ITEM, Unknown, plain, read_hir
 from reading import Untranslated
 
 HERE = Path(__file__).parent
@@ -88,7 +88,7 @@ def rustc(folder, features, older=False, *words, root="src/lib.rs"):
         if re.match(r"\w*", it)[0] not in ATTRIBUTES and it != "feature(prelude_import)" and not (
                 root == "build.rs" and it.startswith('path = "src/')):
             raise Untranslated(f"the attribute {it}")
-    return mir, hir
+    return plain(mir), hir
 
 
 def all_of(crate):
@@ -131,11 +131,11 @@ def version():
 def items(text):
     """The names and the whole text of the functions and constants of MIR, in order, wherever their files are."""
     statics = dict(re.findall(r"^(alloc\d+) \(static: ([\w:]+),", text, re.M))
-    text = outside(r"(?<=\{)alloc\d+(?=: )", lambda m: statics.get(m[0], "alloc"), text)
-    text = outside(r"(?<![\w:])(?:core|alloc|std)::", lambda m: "std::", text)
-    text = outside(r"<static\(DefId\(0:\d+ ~ \w+\[\w+\]", lambda m: "<static(DefId(", text)  # a hash of rustc's flags
-    text = outside(r"(<impl at |\{closure@).*?\bsrc/", lambda m: m[1] + "src/", text)
-    return [(m["name"] or m["head"], m[0]) for m in re.finditer(ITEM, text)]
+    text = re.sub(r"(?<=\{)alloc\d+(?=: )", lambda m: statics.get(m[0], "alloc"), text)
+    text = re.sub(r"(?<![\w:])(?:core|alloc|std)::", "std::", text)
+    text = re.sub(r"<static\(DefId\(0:\d+ ~ \w+\[\w+\]", "<static(DefId(", text)  # a hash of rustc's flags
+    text = re.sub(r"(<impl at |\{closure@).*?\bsrc/", r"\1src/", text)
+    return [(m["name"], m[0]) for m in re.finditer(ITEM, text)]
 
 
 def same(main, other, where):
@@ -156,7 +156,7 @@ def same_in_build_script(folder, features, main):
     """That the functions that the build script has of the crate are the crate's: they could print for cargo."""
     known = {text for _, text in items(main[0])}
     written = rustc(folder, features, True, "-Cdebug-assertions=off", root="build.rs")[0]
-    for name, text in items(outside(r" = (?=<impl proved::triple::Triple>::host\(\))", lambda m: " = host::", written)):
+    for name, text in items(re.sub(r" = (?=<impl proved::triple::Triple>::host\(\))", " = host::", written)):
         if re.match(r"(compat|fields|hash|proved|search)::", name) and text not in known:
             raise Untranslated(f"the build script has another function {name}")
 

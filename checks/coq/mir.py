@@ -4,7 +4,7 @@ import re
 import sys
 
 from mir_body import Body
-from mir_grammar import Function, Unknown, outside, read_hir, read_mir
+from mir_grammar import Function, Unknown, read_hir, read_mir
 from mir_types import Types, referred, strip
 from reading import Untranslated
 
@@ -37,7 +37,7 @@ class Crate:
             paths = [path for path in declared if path.split("::")[-1] == name]
             if len(paths) != 1:
                 raise Unknown(f"the type of {given}")
-            mir = outside(re.escape(given), lambda _, path=paths[0]: path, mir)
+            mir = mir.replace(given, paths[0])
         return mir
 
     def key(self, function):

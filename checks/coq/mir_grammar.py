@@ -10,81 +10,37 @@ class Unknown(Untranslated):
     """What the reader doesn't know."""
 
 
-OPEN, CLOSE = "([{<", ")]}>"
-
-
-def outside(pattern, to, text):
-    """Replaces what has a pattern, outside of strings."""
-    return re.sub(rf"""'"'|"(?:[^"\\\n]|\\.)*"|{pattern}""", lambda m: m[0] if m[0][0] in "'\"" else to(m), text)
-
-
-def depths(text):
-    """Each character's index, and how many brackets are open before it; what strings hold is left out."""
-    depth, quoted, i = 0, False, 0
-    while i < len(text):
-        if quoted:
-            quoted = text[i] != '"'
-            i += 1 + (text[i] == "\\")
-            continue
-        if text[i:i + 2] in ("->", "=>"):
-            raise Unknown(f"brackets of {text}")
-        depth -= text[i] in CLOSE
-        yield i, depth
-        depth += text[i] in OPEN
-        quoted = text[i] == '"'
-        i += 1
-
-
-def split(text):
-    """The parts between commas outside of brackets and strings."""
-    cuts = [-1, *(i for i, depth in depths(text) if text[i] == "," and not depth), len(text)]
-    return [it for it in (text[a + 1:b].strip() for a, b in zip(cuts, cuts[1:])) if it]
-
-
-def close(text, start=0):
-    """The index of the bracket that closes the one at `start`."""
-    for i, depth in depths(text[start:]):
-        if i and not depth and text[start + i] in CLOSE:
-            return start + i
-    raise Unknown(f"brackets of {text}")
-
-
-def last_open(text):
-    """The index of the bracket that the last character closes."""
-    return next(i for i, depth in depths(text) if not depth and text[i] == "(" and close(text, i) == len(text) - 1)
-
-
-def clean(path):
-    """A type or a path without lifetimes; what is of core or alloc is of std, which has it by the same path."""
-    path = re.sub(r"(?<![\w:])(core|alloc)::", "std::", re.sub(r"&'\w+ ", "&", path.strip()))
-    return re.sub(r"(::)?<('\w+(, )?)+>", "", re.sub(r"<('\w+, )+(?!')", "<", path))
-
-
-def place(text):
-    at = close(text) + 1 if text[0] == "(" else re.match(r"_\d+", text).end()
-    inner = text[1:at - 1]
-    if text[0] == "_":
-        local, steps = int(text[1:at]), []
-    elif inner[0] == "*":
-        local, steps = place(inner[1:])
-        steps = [*steps, ("*",)]
-    else:
-        end = close(inner) + 1 if inner[0] == "(" else re.match(r"_\d+", inner).end()
-        m = re.fullmatch(r"\.(\d+): (.*)| as (\w+)", inner[end:])
-        local, steps = place(inner[:end])
-        steps = [*steps, ("as", m[3]) if m[3] else (".", int(m[1]), clean(m[2]))]
-    if at < len(text):
-        m = re.fullmatch(r"\[_(\d+)\]|\[(\d+) of \d+\]", text[at:])
-        steps = [*steps, ("[]", int(m[1])) if m[1] else ("[c]", int(m[2]))]
-    return local, steps
-
-
+# A character, or brackets with what they enclose.
+ANY = r"[^()\[\]{}<>]"
+for _ in range(9):
+    ANY = rf"(?:[^()\[\]{{}}<>]|[(\[{{<]{ANY}*[)\]}}>])"
 ESCAPES = {"n": "\n", "t": "\t", "r": "\r", "0": "\0", '"': '"', "'": "'", "\\": "\\"}
 
 
-def text_bytes(text):
-    parts = re.findall(r"\\x(..)|\\(.)|([^\\]+)", text, re.S)
-    return b"".join(bytes.fromhex(code) or (plain or ESCAPES[escape]).encode() for code, escape, plain in parts)
+def plain(text):
+    """MIR without what its texts hold: their bytes are in hexadecimal digits, and an ASCII character is its number."""
+    def plain_one(m):
+        if m[0][0] not in "'\"":  # how the bytes of an allocation look
+            return ""
+        if m[1]:
+            return f"'{ord(m[1])}'"
+        parts = re.findall(r"\\x(..)|\\u\{(\w+)\}|\\(.)|([^\\]+)", m[2])
+        return '"%s"' % "".join(byte or (of or ESCAPES.get(escape) or chr(int(number, 16))).encode().hex()
+                                for byte, number, escape, of in parts)
+    return re.sub(r"""^[^"'\n]*│.*|'([ -&(-\[\]-~])'|"((?:[^"\\\n]|\\.)*)\"""", plain_one, text, flags=re.M)
+
+
+def split(text):
+    """The parts between commas outside of brackets."""
+    if not re.fullmatch(rf"{ANY}*", text):
+        raise Unknown(f"brackets of {text}")
+    return [it.strip() for it in re.findall(rf"(?:(?!,){ANY})+", text)]
+
+
+def clean(text):
+    """Types and paths without lifetimes; what is of core or alloc is of std, which has it by the same path."""
+    text = re.sub(r"(?<![\w:])(core|alloc)::", "std::", re.sub(r"&'\w+ ", "&", text))
+    return re.sub(r"(::)?<('\w+(, )?)+>", "", re.sub(r"<('\w+, )+(?!')", "<", text))
 
 
 def within(number, type):
@@ -95,98 +51,96 @@ def within(number, type):
     return number
 
 
+def read(forms, text):
+    """What the first form that a text has makes of its parts."""
+    for form, make in forms.items():
+        if m := re.fullmatch(form, text):
+            return make(*m.groups())
+    raise Unknown(f"the form {text}")
+
+
+def place(text):
+    """A local, or a step from another place."""
+    if m := re.fullmatch(r"_(\d+)", text):
+        return int(m[1]), []
+    of, step = read(STEPS, text)
+    local, steps = place(of)
+    return local, [*steps, step]
+
+
 def operand(text):
-    text = text.strip().removeprefix("no_retag ")
-    if m := re.fullmatch(r"(copy|move) (.*)", text):
-        return m[1], place(m[2])
-    if not text.startswith("const "):
-        raise Unknown(f"the operand {text}")
-    text = text[6:]
-    if m := re.fullmatch(r"(\d+)_(u8|u16|u32|u64|usize|isize)", text):
-        return "number", within(int(m[1]), m[2]), m[2]
-    if m := re.fullmatch(r"'([ -&(-\[\]-~])'", text):
-        return "number", ord(m[1]), "char"
-    if text in ("true", "false", "()"):
-        return "word", {"()": "tt"}.get(text, text), "()" if text == "()" else "bool"
-    if m := re.fullmatch(r'(b?)"((?:[^"\\]|\\.)*)"', text):
-        found = text_bytes(m[2])
-        return "text", found, f"&[u8; {len(found)}]" if m[1] else "&str"
-    if m := re.fullmatch(r"ZeroSized: (\{closure@.*\})", text):
-        return "closure", m[1]
-    if m := re.fullmatch(r"\{(alloc\d+): .*\}|<static\(DefId\(\S+ ~ \w+\[\w+\]::([\w:]+)\)\)>", text):
-        return "static", m[1] or m[2]
-    if text.endswith(")"):
-        at = last_open(text)
-        return "aggregate", clean(text[:at]), [operand("const " + it) for it in split(text[at + 1:-1])]
-    if re.match(r"[\w<{]", text):
-        return "constant", clean(text)
-    raise Unknown(f"the operand const {text}")
+    return read(OPERANDS, text)
 
 
+def operands(text):
+    return [operand(it) for it in split(text)]
+
+
+PLACE = rf"((?:_\d+|\({ANY}*\))(?:\[[^]]*\])?)"
+STEPS = {
+    rf"\(\*{PLACE}\)": lambda of: (of, ("*",)),
+    rf"\({PLACE} as (\w+)\)": lambda of, variant: (of, ("as", variant)),
+    rf"\({PLACE}\.(\d+): (.*)\)": lambda of, index, type: (of, (".", int(index), type)),
+    rf"{PLACE}\[_(\d+)\]": lambda of, local: (of, ("[]", int(local))),
+    rf"{PLACE}\[(\d+) of \d+\]": lambda of, index: (of, ("[c]", int(index))),
+}
+OPERANDS = {
+    r"(copy|move) (.*)": lambda how, of: (how, place(of)),
+    r"const (\d+)_(u8|u16|u32|u64|usize|isize)": lambda number, type: ("number", within(int(number), type), type),
+    r"const '(\d+)'": lambda number: ("number", int(number), "char"),
+    r"const (true|false)": lambda word: ("word", word, "bool"),
+    r"const \(\)": lambda: ("word", "tt", "()"),
+    r'const "(\w*)"': lambda digits: ("text", bytes.fromhex(digits), "&str"),
+    r'const b"(\w*)"': lambda digits: ("text", bytes.fromhex(digits), f"&[u8; {len(digits) // 2}]"),
+    r"const ZeroSized: (\{closure@.*\})": lambda type: ("closure", type),
+    r"const \{(alloc\d+): .*\}": lambda of: ("static", of),
+    r"const <static\(DefId\(\S+ ~ \w+\[\w+\]::([\w:]+)\)\)>": lambda path: ("static", path),
+    rf"const (.*?)\(({ANY}*)\)":
+        lambda path, parts: ("aggregate", path, [operand(f"const {it}") for it in split(parts)]),
+    r"const ([\w<{].*)": lambda path: ("constant", path),
+}
 BINARY = "Eq Ne Lt Le Gt Ge Div Rem BitAnd BitOr BitXor Shl Shr AddWithOverflow SubWithOverflow MulWithOverflow".split()
-CAST = r"((?:copy|move) (?:\S+|\(.*\))) as (.*) \((IntToInt|PointerCoercion\(Unsize, Implicit\)|Transmute)\)"
-
-
-def rvalue(text):
-    text = text.strip().removeprefix("no_retag ")
-    if m := re.match(r"(\w+)\(", text):
-        inner = text[m.end():-1]
-        if m[1] in BINARY:
-            return "binary", m[1], *map(operand, split(inner))
-        if m[1] == "Not":
-            return "not", operand(inner)
-        if m[1] == "PtrMetadata":
-            return "length", operand(inner)
-        if m[1] == "discriminant":
-            return "discriminant", place(inner)
-    if m := re.fullmatch(CAST, text):
-        return "cast", m[3], operand(m[1]), clean(m[2])
-    if re.match(r"(copy|move|const) ", text):
-        return "use", operand(text)
-    if m := re.fullmatch(r"&raw const \(fake\) (.*)|&(mut )?([_(].*)", text):
-        return "mut" if m[2] else "ref", place(m[1] or m[3])
-    if text[0] == "[" and (m := re.fullmatch(r"\[(.*); (\d+)\]", text)):
-        return "repeat", operand(m[1]), int(m[2])
-    if text[0] in "([" and close(text) == len(text) - 1:
-        return "tuple" if text[0] == "(" else "array", [operand(it) for it in split(text[1:-1])]
-    if text.endswith("}") and (i := text.find(" { ")) > 0:
-        parts = [it.partition(": ") for it in split(text[i + 3:-1])]
-        return "aggregate", clean(text[:i]), [operand(of) for _, _, of in parts], [name for name, _, _ in parts]
-    at = last_open(text) if text.endswith(")") else len(text)
-    if "::" in text[:at] or re.match(r"[A-Z]\w*\(", text):  # one word is a type of the root, or an operator
-        return "aggregate", clean(text[:at]), [operand(it) for it in split(text[at + 1:-1])], None
-    raise Unknown(f"the expression {text}")
-
-
-def terminator(text):
-    if text in ("return", "unreachable"):
-        return (text,)
-    if m := re.fullmatch(r"goto -> bb(\d+)", text):
-        return "goto", int(m[1])
-    if m := re.fullmatch(r"switchInt\((.*)\) -> \[(.*)\]", text):
-        cases = [it.split(": bb") for it in m[2].split(", ")]
-        return "switch", operand(m[1]), {k if k == "otherwise" else int(k): int(b) for k, b in cases}
-    if m := re.fullmatch(r'assert\((!?)((?:copy|move) .*?), ".*\) -> \[success: bb(\d+), .*\]', text):
-        return "assert", not m[1], operand(m[2]), int(m[3])
-    if m := re.fullmatch(r"drop\(.*\) -> \[return: bb(\d+), .*\]", text):
-        return "goto", int(m[1])  # no type of the crate implements Drop
-    if m := re.fullmatch(r"(.*?) = (.*\)) -> \[return: bb(\d+), .*\]", text):
-        at = last_open(m[2])
-        return "call", place(m[1]), clean(m[2][:at]), [operand(it) for it in split(m[2][at + 1:-1])], int(m[3])
-    if re.search(r"\) -> (unwind |bb\d+$)", text):
-        return ("panic",)  # a call that doesn't return
-    raise Unknown(f"the terminator {text}")
+RVALUES = {
+    rf"({'|'.join(BINARY)})\((.*)\)": lambda name, parts: ("binary", name, *operands(parts)),
+    r"Not\((.*)\)": lambda of: ("not", operand(of)),
+    r"PtrMetadata\((.*)\)": lambda of: ("length", operand(of)),
+    r"discriminant\((.*)\)": lambda of: ("discriminant", place(of)),
+    rf"((?:copy|move) {PLACE}) as (.*) \((IntToInt|PointerCoercion\(Unsize, Implicit\)|Transmute)\)":
+        lambda of, _, type, kind: ("cast", kind, operand(of), type),
+    r"((?:copy|move|const) .*)": lambda of: ("use", operand(of)),
+    r"&(?:mut|raw const \(fake\)) (.*)": lambda of: ("mut", place(of)),
+    r"&(.*)": lambda of: ("ref", place(of)),
+    r"\[(.*); (\d+)\]": lambda of, count: ("repeat", operand(of), int(count)),
+    rf"\(({ANY}*)\)": lambda parts: ("tuple", operands(parts)),
+    rf"\[({ANY}*)\]": lambda parts: ("array", operands(parts)),
+    rf"(.*?) \{{ ({ANY}*) \}}": lambda path, parts: ("aggregate", path, [operand(it.partition(": ")[2]) for it in split(
+        parts)], [it.partition(": ")[0] for it in split(parts)]),
+    rf"(\w.*::.*?|[A-Z]\w*)\(({ANY}*)\)": lambda path, parts: ("aggregate", path, operands(parts), None),
+    r"(\w.*::.*)": lambda path: ("aggregate", path, [], None),
+}
+TERMINATORS = {
+    r"(return|unreachable)": lambda kind: (kind,),
+    r"goto -> bb(\d+)": lambda b: ("goto", int(b)),
+    r"switchInt\((.*)\) -> \[((?:\d+: bb\d+, )*)otherwise: bb(\d+)\]": lambda of, cases, b: ("switch", operand(of), {
+        int(number): int(to) for number, to in re.findall(r"(\d+): bb(\d+)", cases)} | {"otherwise": int(b)}),
+    r'assert\((!?)((?:copy|move) .*?), ".*\) -> \[success: bb(\d+), .*\]':
+        lambda negated, of, b: ("assert", not negated, operand(of), int(b)),
+    r"drop\(.*\) -> \[return: bb(\d+), .*\]": lambda b: ("goto", int(b)),  # no type of the crate implements Drop
+    rf"{PLACE} = (.*?)\(({ANY}*)\) -> \[return: bb(\d+), .*\]":
+        lambda to, path, parts, b: ("call", place(to), path, operands(parts), int(b)),
+    r".*\) -> (?:unwind .*|bb\d+)": lambda: ("panic",),  # a call that doesn't return
+}
 
 
 class Function:
     """A function or a constant, by the path that rustc prints. Its blocks are read when they are needed."""
 
     def __init__(self, path, parameters, result, text):
-        self.path, self.result, self.text, self.promoted, self.title = path, clean(result), text, {}, None
-        found = [re.fullmatch(r"_(\d+): (.*)", it, re.S) for it in split(parameters)]
-        self.parameters = [(int(m[1]), clean(m[2])) for m in found]
+        self.path, self.result, self.text, self.promoted = path, result, text, {}
+        found = [re.fullmatch(r"_(\d+): (.*)", it) for it in split(parameters)]
+        self.parameters = [(int(m[1]), m[2]) for m in found]
         locals = re.findall(r"^ *let (?:mut )?_(\d+): (.*);$", text, re.M)
-        self.types = {0: self.result} | dict(self.parameters) | {int(n): clean(it) for n, it in locals}
+        self.types = {0: self.result} | dict(self.parameters) | {int(n): it for n, it in locals}
 
     def blocks(self):
         found = {}
@@ -196,42 +150,39 @@ class Function:
                 continue
             *lines, end = [it.strip().removesuffix(";") for it in text.strip().split("\n")]
             lines = [it for it in lines if not re.match(r"(StorageLive|StorageDead)\(|ConstEvalCounter$|nop$", it)]
-            parts = [re.fullmatch(r"([_(].*?) = (.*)", it) or it for it in lines]
-            if wrong := [it for it in parts if isinstance(it, str)]:
-                raise Unknown(f"the statement {wrong[0]}")
-            found[int(number)] = [(place(m[1]), rvalue(m[2])) for m in parts], terminator(end)
+            statements = [read({rf"{PLACE} = (.*)": lambda to, it: (place(to), read(RVALUES, it))}, it) for it in lines]
+            found[int(number)] = statements, read(TERMINATORS, end)
         return found
 
 
 ITEM = re.compile(
-    r"^(?:(?:const )?fn (?P<head>[^\n]*)\{\n|(?:const|static) (?P<name>\S[^\n]*?): (?!\d)(?P<type>[^\n]*?) = "
-    r"(?:\{\n|const (?P<value>[^\n]*);\n))(?:(?<=\{\n)(?P<body>.*?)^\})?", re.M | re.S)
+    r"^(?:const fn|fn|const|static) (?P<name>\S[^\n]*?)"
+    r"(?:\((?P<parameters>(?:_1: [^\n]*)?)\) -> (?P<result>[^\n]*) \{\n|"
+    r": (?!\d)(?P<type>[^\n]*?) = (?:\{\n|const (?P<value>[^\n]*);\n))"
+    r"(?:(?<=\{\n)(?P<body>.*?)^\})?", re.M | re.S)
 ALLOCATION = re.compile(r"^alloc\d+ \([^\n]*\) \{(?:\}|\n.*?^\})|^//[^\n]*", re.M | re.S)
 
 
 def read_mir(text):
     """The functions, each constant by its path, and the path of each static, by its place or its path."""
     functions, constants, last = [], {}, {}
-    text = re.sub(r"^// MIR FOR CTFE\n.*?^\}", "", text, flags=re.M | re.S)  # the same function, as a constant calls it
+    text = clean(re.sub(r"^// MIR FOR CTFE\n.*?^\}", "", text, flags=re.M | re.S))  # again, as a constant calls it
     if rest := re.sub(ALLOCATION, "", re.sub(ITEM, "", text)).strip():
         raise Unknown(f"the item {rest.splitlines()[0]}")
     for m in re.finditer(ITEM, text):
-        if m["head"]:
-            head = m["head"].strip()
-            at = head.index("(_1") if "(_1" in head else head.index("()")
-            end = close(head, at)
-            it = Function(head[:at], head[at + 1:end], head[end + 1:].strip().removeprefix("-> "), m["body"])
-            functions.append(it)
-            last[it.path] = it
-            continue
         name, _, promoted = m["name"].partition("::promoted[")
-        value = operand("const " + m["value"]) if m["value"] else Function(name, "", m["type"], m["body"])
+        value = operand("const " + m["value"]) if m["value"] else Function(
+            name, m["parameters"] or "", m["result"] or m["type"], m["body"])
         if promoted:  # a constant of the function that is printed before
             last[name].promoted[promoted[:-1]] = value
-        elif clean(name) in constants:
+            continue
+        last[name] = value
+        if m["result"]:
+            functions.append(value)
+        elif name in constants:
             raise Unknown(f"a second constant {name}")
         else:
-            constants[clean(name)] = last[name] = value
+            constants[name] = value
     statics = dict(re.findall(r"^(alloc\d+) \(static: ([\w:]+),", text, re.M))
     return functions, constants, statics | {it: it for it in statics.values()}
 

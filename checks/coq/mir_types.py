@@ -1,7 +1,7 @@
 """What the types that MIR names are in Coq, and what is called by a path of MIR."""
 import re
 
-from mir_grammar import Unknown, close, split, std_trait
+from mir_grammar import ANY, Unknown, split, std_trait
 
 BITS = {"u8": "8", "u16": "16", "u32": "32", "u64": "64", "usize": "usize_bits"}
 TEXTS = ("str", "std::string::String")
@@ -105,22 +105,12 @@ class Types:
 
 def of_call(path):
     """The trait, or none, the type or the module, and the name of what is called."""
-    if path[0] == "<":
-        end = close(path)
-        owner, _, trait = path[1:end].rpartition(" as ")
-        name = re.match(r"::(\w+)", path[end + 1:])
-        if not owner or not name or "<" in trait and close(trait, trait.index("<")) != len(trait) - 1:
-            raise Unknown(f"the call of {path}")
-        if trait.startswith("std::"):
-            return std_trait(re.sub(r"<.*", "", trait)), owner, name[1]
-        if "<" in trait:
+    if m := re.fullmatch(rf"<({ANY}*) as ([\w:]+)(<{ANY}*>)?>::(\w+)(?:::<{ANY}*>)?", path):
+        owner, trait, parameters, name = m.groups()
+        if parameters and not trait.startswith("std::"):
             raise Unknown(f"the call of {path}, of a trait with parameters")
-        return trait, owner, name[1]
-    if m := re.search(r"<impl ", path):
-        end = close(path, m.start())
-        owner = path if path.startswith("std::") else path[m.end():end]  # the crate may have a module `str`
-        return None, owner, re.match(r"::(\w+)", path[end + 1:])[1]
-    while (plain := re.sub(r"::<[^<>]*>", "", path)) != path:
-        path = plain
-    owner, _, name = path.rpartition("::")
+        return std_trait(trait) if trait.startswith("std::") else trait, owner, name
+    if m := re.fullmatch(rf"([\w:]*<impl ({ANY}*)>)::(\w+)(?:::<{ANY}*>)?", path):
+        return None, m[1] if path.startswith("std::") else m[2], m[3]  # the crate may have a module `str`
+    owner, _, name = re.sub(rf"::<{ANY}*?>", "", path).rpartition("::")
     return None, owner, name
