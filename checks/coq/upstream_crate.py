@@ -9,6 +9,7 @@ from pathlib import Path
 
 import upstream_mir
 from compiled import FLAGS, HERE, NoCompiler, all_of, forms, version
+from mir_grammar import plain
 
 FEATURES = "std", "arch_zkasm", "arch_z80"  # the last two decide nothing of ours
 PROOFS = "UpstreamCrate", "UpstreamTriple"  # about this crate
@@ -45,7 +46,7 @@ def write(_root, folder, crate, is_compared=False):
         cargo("--emit=mir")
         mir_of = "".join(it.read_text(encoding="utf-8") for it in Path(out).rglob("target_lexicon-*.mir"))
         with forms():
-            found = upstream_mir.Crate(mir_of, hir, folder.joinpath("Specs.v").read_text(encoding="utf-8"))
+            found = upstream_mir.Crate(plain(mir_of), hir, folder.joinpath("Specs.v").read_text(encoding="utf-8"))
     unwritten = all_of(found)
     for why in dict.fromkeys(unwritten.values()):
         print(f"theorem: not written: {why}: in {', '.join(it for it in unwritten if unwritten[it] == why)}")

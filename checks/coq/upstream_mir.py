@@ -8,7 +8,7 @@ import mir_body
 import mir_std
 import mir_types
 from mir_body import Con, Mut
-from mir_grammar import Function, Unknown, clean, close, split
+from mir_grammar import ANY, Function, Unknown, split
 from mir_types import BITS, TEXTS, strip
 
 Shown = namedtuple("Shown", "code")  # what `format_args!` has: an argument's code, or that of all pieces
@@ -20,9 +20,7 @@ ITERATORS = ("<std::str::Split<char> as std::iter::Iterator>::next", "<std::str:
 
 def without_generics(path):
     """The path of a function of std without arguments of generics."""
-    while m := re.search(r"::<(?!impl )", path):
-        path = path[:m.start()] + path[close(path, m.end() - 1) + 1:]
-    return path
+    return re.sub(rf"::<(?!impl ){ANY}*?>", "", path)
 
 
 class Types(mir_types.Types):
@@ -254,7 +252,7 @@ class Crate(mir.Crate):
                     sorted(map(int, captured)) != [*range(len(captured))]:
                 raise Unknown(f"what {type} captures, or changes of it")
             made = self.closures[type] = Function(it.path, "", it.result, it.text)
-            made.captured = [(len(it.types) + i, clean(captured[str(i)])) for i in range(len(captured))]
+            made.captured = [(len(it.types) + i, captured[str(i)]) for i in range(len(captured))]
             made.parameters = [(n, re.sub("^&mut (?=&mut )", "", of)) for n, of in made.captured] + it.parameters[1:]
             made.types = it.types | dict(made.captured) | dict(made.parameters) | {1: f"&{type}"}
             made.promoted, made.into = it.promoted, [False] * len(made.parameters)
