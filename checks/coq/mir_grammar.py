@@ -2,6 +2,7 @@
 
 A place is a local and its projections: ("*",), (".", index, type), ("as", variant), ("[]", local), ("[c]", index)."""
 import re
+from collections import namedtuple
 
 from reading import Untranslated
 
@@ -188,28 +189,17 @@ def read_mir(text):
 
 
 DEFINED = r"DefId\(\d+:\d+ ~ (\w+)\[\w+\]::(\S+?)\)"
-
-
-class Impl:
-    """Where an impl begins, the module that it is in, the type and the trait, if they are paths, and its methods."""
-
-    def __init__(self, path, crate, block):
-        head, _, items = block.partition(" items: [")
-        self.place = re.search(r"^ {16}span: (.+?:\d+:\d+): ", block, re.M)[1]
-        self.module = path.rpartition("{impl#")[0].removesuffix("::")
-        own = re.search(r"^ {24}self_ty: Ty \{\n.*\n.*\n +kind: Path\(\n +Resolved\(\n +None,\n +Path \{\n.*\n +res: "
-                        r"Def\(\n +(?:Struct|Enum),\n +" + DEFINED, head, re.M)
-        self.owner = own[2] if own and own[1] == crate else None
-        trait = re.search(r"^ {24}of_trait: (?:None,|Some\(\n {28}TraitImplHeader \{\n(?: {32}.*\n)*? {32}trait_ref: "
-                          r"TraitRef \{\n +path: Path \{\n.*\n +res: Def\(\n +Trait,\n +" + DEFINED + ")", head, re.M)
-        if not trait:
-            raise Unknown(f"the trait of {path}")
-        self.trait = trait[2] and (trait[2] if trait[1] == crate else std_trait(trait[2]))
-        if not self.owner and (self.trait or "std::").startswith("std::"):  # such as of an alias
-            raise Unknown(f"the type of {path}")
-        line, begin, end_line, end = re.search(r"^ {16}span: .+?:(\d+):(\d+): (\d+):(\d+) ", block, re.M).groups()
-        self.is_derived = line == end_line and int(end) - int(begin) == len((self.trait or "").rpartition("::")[2])
-        self.methods = re.findall(r"owner_id: DefId\(\S+ ~ \S+::(\w+)\),", items)
+KINDS = "Const Enum ExternCrate Fn Impl Macro Mod Static Struct Trait TyAlias Type Use".split()
+# What an item must not have: of another kind of path a constant or an alias of std could be the target's.
+REFUSED = {
+    r"PatExpr \{ (?!kind: (?:Lit \{|Path\( Resolved\( None, Path \{ res: Def\( Ctor\())": "a constant in a pattern",
+    r" Def\( (?!(?:AssocFn|Ctor|Enum|Fn|Macro|Mod|Struct|Trait|Variant)\b|"
+    r"(?:(?!DefId).)*DefId\(\d+:\d+ ~ (?:CRATE\[|core\[\w+\]::fmt::Result\)))": "what another target has otherwise",
+    r" Provided\(": "a function that a trait has for all types",
+    r" disr_expr: (?!None,)": "a number of a variant",
+}
+# Where an impl begins, the module that it is in, the type and the trait, if they are paths, and its methods.
+Impl = namedtuple("Impl", "place module owner trait methods is_derived")
 
 
 def std_trait(path):
@@ -217,52 +207,54 @@ def std_trait(path):
     return "std::" + path.split("::")[-1]
 
 
-# A pattern that is neither a literal nor a variant: rustc computes its value.
-PATTERN = re.compile(r"PatExpr \{\n.*\n.*\n +kind: (?!Lit \{|Path\(\n +Resolved\(\n +None,\n +Path \{\n.*\n +res: "
-                     r"Def\(\n +Ctor\()")
-# What a path is of: a constant or an alias of std, which could be the target's, is none.
-NAMED = "AssocFn Ctor Enum Fn Macro Mod Struct Trait Variant".split()
-KINDS = "Const Enum ExternCrate Fn Impl Macro Mod Static Struct Trait TyAlias Type Use".split()
+def impl(path, crate, block):
+    own = re.search(r"^ {24}self_ty: Ty \{ kind: Path\( Resolved\( None, Path \{ res: Def\( (?:Struct|Enum), " + DEFINED,
+                    block, re.M)
+    of = re.search(r"^ {24}of_trait: (?:None,|Some\( TraitImplHeader \{(?: \w+: [^ ]+)* trait_ref: TraitRef \{ path: "
+                   r"Path \{ res: Def\( Trait, " + DEFINED + ")", block, re.M)
+    owner = own[2] if own and own[1] == crate else None
+    trait = of[2] and (of[2] if of[1] == crate else std_trait(of[2]))
+    if not owner and (trait or "std::").startswith("std::"):  # such as of an alias
+        raise Unknown(f"the type of {path}")
+    at = re.search(r"^ {16}span: (.+?:(\d+):(\d+)): (\d+):(\d+) ", block, re.M)
+    is_derived = at[2] == at[4] and int(at[5]) - int(at[3]) == len((trait or "").rpartition("::")[2])
+    items = re.search(r"^ {24}items: \[(.*)", block, re.M)[1]
+    return Impl(at[1], path.rpartition("{impl#")[0].removesuffix("::"), owner, trait,
+                re.findall(r"owner_id: DefId\(\S+ ~ \S+::(\w+)\),", items), is_derived)
 
 
 def read_hir(text):
-    """The fields of each struct, the variants of each enum with their number of fields, and the impls."""
+    """The fields of each struct, the variants of each enum with their number of fields, and the impls. What is in a
+    part of an item, which has 24 spaces before it, is in its line, without places."""
     types, impls, aliases, paths = {}, [], [], set()
-    taken = {*BINARY, "Not", "PtrMetadata", *re.findall(r" name: Plain\(\n +(\w+)#", text)}  # of generics
+    text = re.sub(r"\n {25,}", " ", re.sub(r"\n {17,}(?:hir_id|span|vis_span): .*", "", text))
+    taken = {*BINARY, "Not", "PtrMetadata", *re.findall(r" name: Plain\( (\w+)#", text)}  # of generics
     for block in re.split(r"^(?=DefId\(0:(?!0 ))", text, flags=re.M)[1:]:  # without the crate's root
         m, kind = re.match(DEFINED + " => OwnerNodes", block), re.search(r"^ {16}kind: (\w+)", block, re.M)
         if not m or not kind or kind[1] not in KINDS:
             raise Unknown(f"an item {block.splitlines()[0]} of kind {kind and kind[1]}")
-        crate, path = m[1], m[2]
-        is_type = kind[1] in ("Enum", "Struct")
-        if re.match(r"(core|alloc|std)::", path) or path in taken or is_type and path.islower():
+        (crate, path), kind = m.groups(), kind[1]
+        if re.match(r"(core|alloc|std)::", path) or path in taken or kind in ("Enum", "Struct") and path.islower():
             raise Unknown(f"{path}, whose name could be another one's")
         if "#" in re.sub(r"\{\w+#\d+\}", "", path) or path in paths:
             raise Unknown(f"{path}, which isn't the only one of its path")
         paths.add(path)
-        if re.search(PATTERN, block):
-            raise Unknown(f"a constant in a pattern of {path}")
-        if " Provided(" in block:
-            raise Unknown(f"a function that the trait {path} has for all types")
-        if kind[1] == "Use" and (to := re.search(r" Single\(\n +(\w+)#", block)) and to[1] != "_":
-            if {*re.findall(r" DefId\(\S+ ~ \S+::(\w+)\),", block.partition(" segments: ")[0])} - {to[1]}:
+        flat = re.sub(r"\s+", " ", block)
+        for form, what in REFUSED.items():
+            if re.search(form.replace("CRATE", crate), flat):
+                raise Unknown(f"{what}, in {path}")
+        if kind == "Use" and (to := re.search(r" Single\( (\w+)#", flat)) and to[1] != "_":
+            if {*re.findall(r" DefId\(\S+ ~ \S+::(\w+)\),", flat.partition(" segments: ")[0])} - {to[1]}:
                 raise Unknown(f"an import under another name, {to[1]}")
-        for of, at in re.findall(r" Def\(\n +(\w+)\b(?:.*\n)+? +DefId\(\d+:\d+ ~ ([\w:\[\]]+)", block):
-            if of not in NAMED and not at.startswith(f"{crate}[") and not re.fullmatch(r"core\[\w+\]::fmt::Result", at):
-                raise Unknown(f"{at}, which could be another one for another target")
-        if kind[1] == "TyAlias":
+        if kind == "TyAlias":
             aliases.append(path)
-        if kind[1] == "Enum":
-            parts = re.split(r"^ {28}Variant \{$", block, flags=re.M)[1:]
-            types[path] = [(re.search(r"ident: (\w+)#", it)[1], it.count(" FieldDef {")) for it in parts]
-            if block.count(" disr_expr: None,") != len(parts):
-                raise Unknown(f"a number of a variant of {path}")
-        elif kind[1] == "Struct":
-            types[path] = re.findall(r"^ +FieldDef \{\n +span: .*\n +vis_span: .*\n +ident: (\w+)#", block, re.M)
-            if block.count(" FieldDef {") != len(types[path]):
-                raise Unknown(f"the fields of {path}")
-        elif kind[1] == "Impl":
-            impls.append(Impl(path, crate, block))
+        elif kind == "Enum":
+            parts = flat.split(" Variant { ident: ")[1:]
+            types[path] = [(it.partition("#")[0], it.count(" FieldDef {")) for it in parts]
+        elif kind == "Struct":
+            types[path] = [it.partition("#")[0] for it in flat.split(" FieldDef { ident: ")[1:]]
+        elif kind == "Impl":
+            impls.append(impl(path, crate, block))
     if twice := {it.split("::")[-1] for it in aliases} & {it.split("::")[-1] for it in types}:
         raise Unknown(f"a type that is another one's alias, {min(twice)}")
     return types, impls
