@@ -107,10 +107,11 @@ def all_of(crate):
 def same_without_alloc(root, crate, known):
     """That each function without the feature `alloc` is written as with it, but for owned names of vendors."""
     folder = root.resolve() / "packages/rust"
-    main = rustc(folder, [])
+    written = rustc(folder, [])
+    main = compared(*written)
     same(main, rustc(folder, [], True, "-Cdebug-assertions=off"), "without `alloc`, as for an older rustc")
     same_in_build_script(folder, [], main)
-    other = crate_of(main, known)
+    other = crate_of(written, known)
     if unknown := {*all_of(other)} - {*LEFT_OUT}:
         raise Untranslated(f"{min(unknown)} isn't known without the feature `alloc`")
 
@@ -128,49 +129,39 @@ def version():
     return subprocess.run(["rustc", "--version"], cwd="/", capture_output=True, text=True).stdout.strip()
 
 
-def items(text):
-    """The names and the whole text of the functions and constants of MIR, in order, wherever their files are."""
-    statics = dict(re.findall(r"^(alloc\d+) \(static: ([\w:]+),", text, re.M))
-    text = re.sub(r"(?<=\{)alloc\d+(?=: )", lambda m: statics.get(m[0], "alloc"), text)
-    text = re.sub(r"(?<![\w:])(?:core|alloc|std)::", "std::", text)
-    text = re.sub(r"<static\(DefId\(0:\d+ ~ \w+\[\w+\]", "<static(DefId(", text)  # a hash of rustc's flags
-    text = re.sub(r"(<impl at |\{closure@).*?\bsrc/", r"\1src/", text)
-    return [(m["name"], m[0]) for m in re.finditer(ITEM, text)]
+def compared(mir, hir):
+    """What two configurations have in common, in order: types, impls, and the text of functions and constants."""
+    types, impls = read_hir(hir)
+    others = "|".join(["host::HOST$", *(rf"serde::<impl at {it.place}: " for it in impls if it.trait in SERDE)])
+    return [*map(str, types.items()), *(str(it) for it in impls if it.trait not in (*UNSAID, *SERDE)),
+            *(m[0] for m in re.finditer(ITEM, mir) if not re.match(others, m["name"]))]
 
 
-def same(main, other, where):
-    """That another configuration has the types, impls and functions of the main one in their order, and no others."""
-    def all_of(text, hir):
-        types, impls = read_hir(hir)
-        serde = [it.place[it.place.rindex("src/"):] for it in impls if it.trait in SERDE]
-        names = "host::HOST$", *(rf"serde::<impl at {re.escape(it)}: " for it in serde)
-        return [*(f"{it.module}: {it.trait} for {it.owner}: {it.methods}" for it in impls
-                  if it.trait not in (*UNSAID, *SERDE)), *map(str, types.items()),
-                *(text for name, text in items(text) if not re.match("|".join(names), name))]
-    if others := [one or another for one, another in itertools.zip_longest(all_of(*other), all_of(*main))
-                  if one != another]:
+def same(main, written, where):
+    """That another configuration has what the main one has, and nothing else."""
+    if others := [one or another for one, another in itertools.zip_longest(compared(*written), main) if one != another]:
         raise Untranslated(f"{where}, rustc compiles another item: {others[0].splitlines()[0][:200]}")
 
 
 def same_in_build_script(folder, features, main):
     """That the functions that the build script has of the crate are the crate's: they could print for cargo."""
-    known = {text for _, text in items(main[0])}
     written = rustc(folder, features, True, "-Cdebug-assertions=off", root="build.rs")[0]
-    for name, text in items(re.sub(r" = (?=<impl proved::triple::Triple>::host\(\))", " = host::", written)):
-        if re.match(r"(compat|fields|hash|proved|search)::", name) and text not in known:
-            raise Untranslated(f"the build script has another function {name}")
+    for m in re.finditer(ITEM, re.sub(r" = (?=<impl proved::triple::Triple>::host\(\))", " = host::", written)):
+        if re.match(r"(compat|fields|hash|proved|search)::", m["name"]) and m[0] not in main:
+            raise Untranslated(f"the build script has another function {m['name']}")
 
 
 def source(root, known):
     """The crate as its main configuration has it, with debug assertions or without, and with features that add."""
     folder = root.resolve() / "packages/rust"
     check_manifest(root)
-    main = rustc(folder, ["alloc"])
+    written = rustc(folder, ["alloc"])
+    main = compared(*written)
     for features, older, *words in OTHERS:
         same(main, rustc(folder, features, older, *words), f"with {' '.join([*features, *words])}, older: {older}")
         if older:  # these are all sets of features with `alloc`
             same_in_build_script(folder, features, main)
-    return crate_of(main, known)
+    return crate_of(written, known)
 
 
 def crate_of(written, known):

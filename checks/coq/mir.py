@@ -17,7 +17,7 @@ class Crate:
 
     def __init__(self, mir, hir, known):
         declared, self.impls = read_hir(hir)
-        self.functions, self.constants, self.statics = read_mir(self.converted(mir, declared))
+        self.functions, self.constants = read_mir(self.converted(mir, declared))
         self.by, self.out, self.titles = {}, [], {}
         self.types = self.Types(self, declared, known)
         self.written = {}

@@ -188,9 +188,7 @@ class Body:
         if kind == "closure":
             return Con(what, [])
         if kind == "static":
-            if what not in self.crate.statics:
-                raise Unknown(f"the constant {what}")
-            return self.crate.static(self.crate.statics[what])
+            return self.crate.static(what)
         if kind == "aggregate":
             return self.aggregate(what, [self.operand(part, env) for part in it[2]])
         if what == "std::fmt::Error":

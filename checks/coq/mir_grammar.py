@@ -19,8 +19,9 @@ ESCAPES = {"n": "\n", "t": "\t", "r": "\r", "0": "\0", '"': '"', "'": "'", "\\":
 
 
 def plain(text):
-    """MIR without what its texts hold: their bytes are in hexadecimal digits, and an ASCII character is its number."""
-    def plain_one(m):
+    """MIR with the bytes of each text in hexadecimal digits, an ASCII character as its number, and statics and files by
+    their names; without lifetimes; and what is of core or alloc is of std, which has it by the same path."""
+    def plain_text(m):
         if m[0][0] not in "'\"":  # how the bytes of an allocation look
             return ""
         if m[1]:
@@ -28,7 +29,13 @@ def plain(text):
         parts = re.findall(r"\\x(..)|\\u\{(\w+)\}|\\(.)|([^\\]+)", m[2])
         return '"%s"' % "".join(byte or (of or ESCAPES.get(escape) or chr(int(number, 16))).encode().hex()
                                 for byte, number, escape, of in parts)
-    return re.sub(r"""^[^"'\n]*│.*|'([ -&(-\[\]-~])'|"((?:[^"\\\n]|\\.)*)\"""", plain_one, text, flags=re.M)
+    text = re.sub(r"""^[^"'\n]*│.*|'([ -&(-\[\]-~])'|"((?:[^"\\\n]|\\.)*)\"""", plain_text, text, flags=re.M)
+    statics = dict(re.findall(r"^(alloc\d+) \(static: ([\w:]+),", text, re.M))
+    text = re.sub(r"(?<=\{)alloc\d+(?=: )", lambda m: statics.get(m[0], "alloc"), text)
+    text = re.sub(r"<static\(DefId\(0:\d+ ~ \w+\[\w+\]::([\w:]+)\)\)>", r"{\1: }", text)
+    text = re.sub(r"(<impl at |\{closure@).*?\b(out|src)/", r"\1\2/", text)
+    text = re.sub(r"(?<![\w:])(core|alloc)::", "std::", re.sub(r"&'\w+ ", "&", text))
+    return re.sub(r"(::)?<('\w+(, )?)+>", "", re.sub(r"<('\w+, )+(?!')", "<", text))
 
 
 def split(text):
@@ -36,12 +43,6 @@ def split(text):
     if not re.fullmatch(rf"{ANY}*", text):
         raise Unknown(f"brackets of {text}")
     return [it.strip() for it in re.findall(rf"(?:(?!,){ANY})+", text)]
-
-
-def clean(text):
-    """Types and paths without lifetimes; what is of core or alloc is of std, which has it by the same path."""
-    text = re.sub(r"(?<![\w:])(core|alloc)::", "std::", re.sub(r"&'\w+ ", "&", text))
-    return re.sub(r"(::)?<('\w+(, )?)+>", "", re.sub(r"<('\w+, )+(?!')", "<", text))
 
 
 def within(number, type):
@@ -94,8 +95,7 @@ OPERANDS = {
     r'const "(\w*)"': lambda digits: ("text", bytes.fromhex(digits), "&str"),
     r'const b"(\w*)"': lambda digits: ("text", bytes.fromhex(digits), f"&[u8; {len(digits) // 2}]"),
     r"const ZeroSized: (\{closure@.*\})": lambda type: ("closure", type),
-    r"const \{(alloc\d+): .*\}": lambda of: ("static", of),
-    r"const <static\(DefId\(\S+ ~ \w+\[\w+\]::([\w:]+)\)\)>": lambda path: ("static", path),
+    r"const \{([\w:]+): .*\}": lambda path: ("static", path),
     rf"const (.*?)\(({ANY}*)\)":
         lambda path, parts: ("aggregate", path, [operand(f"const {it}") for it in split(parts)]),
     r"const ([\w<{].*)": lambda path: ("constant", path),
@@ -165,9 +165,9 @@ ALLOCATION = re.compile(r"^alloc\d+ \([^\n]*\) \{(?:\}|\n.*?^\})|^//[^\n]*", re.
 
 
 def read_mir(text):
-    """The functions, each constant by its path, and the path of each static, by its place or its path."""
+    """The functions, and each constant and static by its path."""
     functions, constants, last = [], {}, {}
-    text = clean(re.sub(r"^// MIR FOR CTFE\n.*?^\}", "", text, flags=re.M | re.S))  # again, as a constant calls it
+    text = re.sub(r"^// MIR FOR CTFE\n.*?^\}", "", text, flags=re.M | re.S)  # the same function, as a constant calls it
     if rest := re.sub(ALLOCATION, "", re.sub(ITEM, "", text)).strip():
         raise Unknown(f"the item {rest.splitlines()[0]}")
     for m in re.finditer(ITEM, text):
@@ -184,8 +184,7 @@ def read_mir(text):
             raise Unknown(f"a second constant {name}")
         else:
             constants[name] = value
-    statics = dict(re.findall(r"^(alloc\d+) \(static: ([\w:]+),", text, re.M))
-    return functions, constants, statics | {it: it for it in statics.values()}
+    return functions, constants
 
 
 DEFINED = r"DefId\(\d+:\d+ ~ (\w+)\[\w+\]::(\S+?)\)"
@@ -216,7 +215,7 @@ def impl(path, crate, block):
     trait = of[2] and (of[2] if of[1] == crate else std_trait(of[2]))
     if not owner and (trait or "std::").startswith("std::"):  # such as of an alias
         raise Unknown(f"the type of {path}")
-    at = re.search(r"^ {16}span: (.+?:(\d+):(\d+)): (\d+):(\d+) ", block, re.M)
+    at = re.search(r"^ {16}span: .*?\b((?:out|src)/.+?:(\d+):(\d+)): (\d+):(\d+) ", block, re.M)
     is_derived = at[2] == at[4] and int(at[5]) - int(at[3]) == len((trait or "").rpartition("::")[2])
     items = re.search(r"^ {24}items: \[(.*)", block, re.M)[1]
     return Impl(at[1], path.rpartition("{impl#")[0].removesuffix("::"), owner, trait,
