@@ -1,10 +1,11 @@
 """Writes what rustc compiles as Coq, off its MIR: `mir_NAME fuel args`, an option of the result, and of what each
 `&mut` argument refers to then. None is a panic, or too little fuel."""
+import copy
 import re
 import sys
 
 from mir_body import Body
-from mir_grammar import Function, Unknown, read_hir, read_mir
+from mir_grammar import Unknown, read_hir, read_mir
 from mir_types import Types, referred, strip
 from reading import Untranslated
 
@@ -21,7 +22,6 @@ class Crate:
         self.by, self.out, self.titles = {}, [], {}
         self.types = self.Types(self, declared, known)
         self.written = {}
-        self.closures = {}
         if any(it.trait == "std::Drop" for it in self.impls):
             raise Unknown("an impl of Drop")
         for it in self.impls:
@@ -33,11 +33,11 @@ class Crate:
 
     def converted(self, mir, declared):
         """MIR where each `impl Into` of a type, named as in the source, is this type, which std makes of itself."""
-        for given, name in {*re.findall(r"\b(impl Into<(\w+)(?:<'\w+>)?>)", mir)}:
+        for name in {*re.findall(r"\bimpl Into<(\w+)>", mir)}:
             paths = [path for path in declared if path.split("::")[-1] == name]
             if len(paths) != 1:
-                raise Unknown(f"the type of {given}")
-            mir = mir.replace(given, paths[0])
+                raise Unknown(f"the type of an `impl Into<{name}>`")
+            mir = mir.replace(f"impl Into<{name}>", paths[0])
         return mir
 
     def key(self, function):
@@ -77,8 +77,8 @@ class Crate:
         it = self.function_of(type)
         if re.search(r"\b_1\b", it.text):
             raise Unknown(f"what {type} captures")
-        made = Function(it.path, "", it.result, it.text)
-        made.parameters, made.types, made.promoted = it.parameters[1:], it.types, it.promoted
+        made = copy.copy(it)
+        made.parameters = it.parameters[1:]
         return made
 
     def all(self):

@@ -170,7 +170,7 @@ class Body:
 
     def type_of(self, operand):
         if operand[0] not in ("copy", "move"):
-            return operand[-1] if operand[0] in ("number", "word", "text") else "?"
+            return operand[-1] if operand[0] == "value" else "?"
         local, steps = operand[1]
         type = self.f.types[local]
         for it in steps:
@@ -181,10 +181,8 @@ class Body:
         kind, what = it[:2]
         if kind in ("copy", "move"):
             return self.get(what, env)
-        if kind in ("number", "word"):
-            return str(what)
-        if kind == "text":
-            return "[" + "; ".join(map(str, what)) + "]"
+        if kind == "value":
+            return what
         if kind == "closure":
             return Con(what, [])
         if kind == "static":
@@ -273,7 +271,7 @@ class Body:
     def binary(self, name, left, right, env):
         x, y = self.code(self.operand(left, env)), self.code(self.operand(right, env))
         type = next((it for it in map(self.type_of, (left, right)) if it != "?"), "?")
-        if type == "char" and "number" not in (left[0], right[0]):
+        if type == "char" and "value" not in (left[0], right[0]):
             raise Unknown("a comparison of two characters, of which only ASCII ones are told apart")
         if name in COMPARE and (type in BITS or type == "char" or type == "isize" and name in ("Eq", "Ne")):
             if name == "Eq" and x.isdigit() and y.isdigit():
@@ -309,7 +307,7 @@ class Body:
             return "tt"
         codes = [self.closure(it) if isinstance(it, Con) and it.name[:1] == "{" else self.code(self.read(it, env))
                  for it in values]
-        if any(type == "char" and it[0] != "number" for it, type in zip(operands, types)):  # a number is an ASCII one
+        if any(type == "char" and it[0] != "value" for it, type in zip(operands, types)):  # a number is an ASCII one
             raise Unknown("a call with a character that isn't known")
         if form := next((code for pattern, code in self.std.items() if re.fullmatch(pattern, path)), None):
             return self.changed(form.format(*codes), values, types, env)

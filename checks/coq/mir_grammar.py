@@ -50,7 +50,7 @@ def within(number, type):
     only that they are greater is known."""
     if number >= {"usize": 2 ** 32, "isize": 2 ** 31, "char": 128}.get(type, number + 1):
         raise Unknown(f"{number} of a {type}")
-    return number
+    return str(number)
 
 
 def read(forms, text):
@@ -88,12 +88,12 @@ STEPS = {
 }
 OPERANDS = {
     r"(copy|move) (.*)": lambda how, of: (how, place(of)),
-    r"const (\d+)_(u8|u16|u32|u64|usize|isize)": lambda number, type: ("number", within(int(number), type), type),
-    r"const '(\d+)'": lambda number: ("number", int(number), "char"),
-    r"const (true|false)": lambda word: ("word", word, "bool"),
-    r"const \(\)": lambda: ("word", "tt", "()"),
-    r'const "(\w*)"': lambda digits: ("text", bytes.fromhex(digits), "&str"),
-    r'const b"(\w*)"': lambda digits: ("text", bytes.fromhex(digits), f"&[u8; {len(digits) // 2}]"),
+    r"const (\d+)_(u8|u16|u32|u64|usize|isize)": lambda number, type: ("value", within(int(number), type), type),
+    r"const '(\d+)'": lambda number: ("value", number, "char"),
+    r"const (true|false)": lambda word: ("value", word, "bool"),
+    r"const \(\)": lambda: ("value", "tt", "()"),
+    r'const (b?)"(\w*)"': lambda is_bytes, digits: ("value", f"[{'; '.join(map(str, bytes.fromhex(digits)))}]", (
+        f"&[u8; {len(digits) // 2}]" if is_bytes else "&str")),
     r"const ZeroSized: (\{closure@.*\})": lambda type: ("closure", type),
     r"const \{([\w:]+): .*\}": lambda path: ("static", path),
     rf"const (.*?)\(({ANY}*)\)":
@@ -119,6 +119,7 @@ RVALUES = {
     rf"(\w.*::.*?|[A-Z]\w*)\(({ANY}*)\)": lambda path, parts: ("aggregate", path, operands(parts), None),
     r"(\w.*::.*)": lambda path: ("aggregate", path, [], None),
 }
+STATEMENTS = {rf"{PLACE} = (.*)": lambda to, value: (place(to), read(RVALUES, value))}
 TERMINATORS = {
     r"(return|unreachable)": lambda kind: (kind,),
     r"goto -> bb(\d+)": lambda b: ("goto", int(b)),
@@ -138,21 +139,16 @@ class Function:
 
     def __init__(self, path, parameters, result, text):
         self.path, self.result, self.text, self.promoted = path, result, text, {}
-        found = [re.fullmatch(r"_(\d+): (.*)", it) for it in split(parameters)]
-        self.parameters = [(int(m[1]), m[2]) for m in found]
+        self.parameters = [(int(n), type) for n, type in (it[1:].split(": ", 1) for it in split(parameters))]
         locals = re.findall(r"^ *let (?:mut )?_(\d+): (.*);$", text, re.M)
         self.types = {0: self.result} | dict(self.parameters) | {int(n): it for n, it in locals}
 
     def blocks(self):
+        """The statements of each block, and what it ends with, without blocks that run after a panic."""
         found = {}
-        form = r"^    bb(\d+)( \(cleanup\))?: \{\n(.*?)^    \}"
-        for number, cleanup, text in re.findall(form, self.text, re.M | re.S):
-            if cleanup:  # what runs after a panic
-                continue
-            *lines, end = [it.strip().removesuffix(";") for it in text.strip().split("\n")]
-            lines = [it for it in lines if not re.match(r"(StorageLive|StorageDead)\(|ConstEvalCounter$|nop$", it)]
-            statements = [read({rf"{PLACE} = (.*)": lambda to, it: (place(to), read(RVALUES, it))}, it) for it in lines]
-            found[int(number)] = statements, read(TERMINATORS, end)
+        for number, text in re.findall(r"^    bb(\d+): \{\n(.*?)^    \}", self.text, re.M | re.S):
+            *lines, end = re.findall(r"^ *(?!StorageLive\(|StorageDead\()(\S.*?);?$", text, re.M)
+            found[int(number)] = [read(STATEMENTS, it) for it in lines], read(TERMINATORS, end)
         return found
 
 
@@ -207,8 +203,8 @@ def std_trait(path):
 
 
 def impl(path, crate, block):
-    own = re.search(r"^ {24}self_ty: Ty \{ kind: Path\( Resolved\( None, Path \{ res: Def\( (?:Struct|Enum), " + DEFINED,
-                    block, re.M)
+    own = re.search(r"^ {24}self_ty: Ty \{ kind: Path\( Resolved\( None, Path \{ res: Def\( (?:Struct|Enum), "
+                    + DEFINED, block, re.M)
     of = re.search(r"^ {24}of_trait: (?:None,|Some\( TraitImplHeader \{(?: \w+: [^ ]+)* trait_ref: TraitRef \{ path: "
                    r"Path \{ res: Def\( Trait, " + DEFINED + ")", block, re.M)
     owner = own[2] if own and own[1] == crate else None

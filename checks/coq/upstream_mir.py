@@ -1,5 +1,6 @@
 """What upstream's own crate needs of the reader of MIR, and ours doesn't: types that Coq doesn't have, closures that
 capture, formatting, iterators, and more of std."""
+import copy
 import re
 from collections import namedtuple
 
@@ -8,7 +9,7 @@ import mir_body
 import mir_std
 import mir_types
 from mir_body import Con, Mut
-from mir_grammar import ANY, Function, Unknown, split
+from mir_grammar import ANY, Unknown, split
 from mir_types import BITS, TEXTS, strip
 
 Shown = namedtuple("Shown", "code")  # what `format_args!` has: an argument's code, or that of all pieces
@@ -242,6 +243,10 @@ class Body(mir_body.Body):
 class Crate(mir.Crate):
     Types, Body = Types, Body
 
+    def __init__(self, *of):
+        self.closures = {}
+        super().__init__(*of)
+
     def closure(self, type):
         """The function of a closure. Its first parameters are what it captures, or the `&mut` that a `&mut` is of."""
         if type not in self.closures:
@@ -251,11 +256,10 @@ class Crate(mir.Crate):
             if not owner or re.search(r"^ *\(+\*?_1\b[^=]* = |= &mut \(+\*?_1\b", it.text, re.M) or \
                     sorted(map(int, captured)) != [*range(len(captured))]:
                 raise Unknown(f"what {type} captures, or changes of it")
-            made = self.closures[type] = Function(it.path, "", it.result, it.text)
+            made = self.closures[type] = copy.copy(it)
             made.captured = [(len(it.types) + i, captured[str(i)]) for i in range(len(captured))]
             made.parameters = [(n, re.sub("^&mut (?=&mut )", "", of)) for n, of in made.captured] + it.parameters[1:]
             made.types = it.types | dict(made.captured) | dict(made.parameters) | {1: f"&{type}"}
-            made.promoted, made.into = it.promoted, [False] * len(made.parameters)
             trait, of, name = owner[0].key
             made.key = trait, of, name + re.sub(r"\W+", "_", it.path[it.path.index("::{closure#"):]).rstrip("_")
             self.by[made.key] = [made]
