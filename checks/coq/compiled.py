@@ -42,7 +42,7 @@ LEFT_OUT = {
 NAME = r'(?:not\()?(?:feature = "(?:alloc|std)"|core_error|docsrs|doctest|test)\)?'
 CONDITION = rf"#!?\[cfg(_attr)?\((?:(?:all|any)\()?{NAME}(?:, {NAME})*\)?(?(1), (?:(?!\bcfg)[\w(), =\"])+)\)\]"
 # The other ways to compile the main configuration: features, whether as for an older rustc, and flags.
-OTHERS = [(["alloc"], True, "-Cdebug-assertions=off"), (["alloc", "std", "serde_support"], False),
+OTHERS = [(["alloc"], True, "-Cdebug-assertions=off"), (["alloc", "std", "serde_support"], False, "-Cdebug-assertions=off"),
           (["alloc", "std"], False), (["alloc", "std"], True, "-Cdebug-assertions=off"),
           (["alloc", "std", "serde_support"], True, "-Cdebug-assertions=off")]
 # The case of an owned name of a vendor in a function, which isn't there without the feature `alloc`.
@@ -68,11 +68,13 @@ def rustc(folder, features, older=False, *words, root="src/lib.rs"):
                             f"-o{serde}", HERE / "serde.rs"], cwd="/", check=True)
             words.append(f"--extern=serde={serde}")
         for of in ([f"--emit=mir={out}/mir,dep-info={out}/read", f"--out-dir={out}"],
-                   ["-Zunpretty=hir-tree", f"-o{out}/hir"], ["-Zunpretty=expanded", f"-o{out}/expanded"]):
+                   ["-Zunpretty=hir-tree", f"-o{out}/hir"], ["-Zunpretty=expanded", "-Ztrace-macros", f"-o{out}/expanded"]):
             ran = subprocess.run(["rustc", *words, *of], cwd="/", capture_output=True, text=True,
                                  env={**os.environ, "RUSTC_BOOTSTRAP": "1", "OUT_DIR": out})
             if ran.returncode or "is unknown and will be ignored" in ran.stderr:  # a pass of MIR
                 raise Untranslated(f"rustc doesn't write the MIR of {folder}: {' '.join(ran.stderr.split())[:300]}")
+        if root != "build.rs" and re.search(r"\bcfg", ran.stderr):  # which says what each macro is called with, and is
+            raise Untranslated("a macro has a configuration, which could be another one")
         mir, hir, read, expanded = (Path(out, it).read_text(encoding="utf-8") for it in "mir hir read expanded".split())
     if names := {*re.findall(r"^# env-dep:([^=\n]*)", read, re.M)} - {"OUT_DIR"}:
         raise Untranslated(f"a variable of the environment, {min(names)}, is read when the crate is compiled")
@@ -132,8 +134,8 @@ def version():
 def compared(mir, hir):
     """What two configurations have in common, in order: types, impls, and the text of functions and constants."""
     types, impls = read_hir(hir)
-    others = "|".join(["host::HOST$", *(rf"serde::<impl at {it.place}: " for it in impls if it.trait in SERDE)])
-    return [*map(str, types.items()), *(str(it) for it in impls if it.trait not in (*UNSAID, *SERDE)),
+    others = "|".join(["host::HOST$", *(rf"serde::<impl at {it.begin}: " for it in impls if it.trait in SERDE)])
+    return [*map(str, types.items()), *(str(it[:-1]) for it in impls if it.trait not in (*UNSAID, *SERDE)),
             *(m[0] for m in re.finditer(ITEM, mir) if not re.match(others, m["name"]))]
 
 
@@ -164,13 +166,21 @@ def source(root, known):
     return crate_of(written, known)
 
 
+def text_at(place):
+    """The text at a place that has one line: of what a `derive` writes, the name of the trait."""
+    file, line, begin, last, end = re.fullmatch(r"(.+):(\d+):(\d+): (\d+):(\d+)", place).groups()
+    lines = Path("/", file).read_text(encoding="utf-8").split("\n")
+    return lines[int(line) - 1][int(begin) - 1:int(end) - 1] if line == last else None
+
+
 def crate_of(written, known):
     """The crate of what rustc writes, without the constant that the build script decides."""
     if re.search(r" kind: ExternCrate\((?!\n +None,\n +(core|alloc)#)", written[1]):
         raise Untranslated("another crate than core and alloc, by which what isn't read could print for cargo")
     crate = mir.Crate(*written, known)
-    if others := [it.place for it in crate.impls if it.trait == "std::Debug" and not it.is_derived]:
-        raise Untranslated(f"{others[0]}: a `Debug` that isn't derived could be other code in what build.rs writes")
+    for it in crate.impls:
+        if it.trait == "std::Debug" and text_at(it.place) != "Debug":
+            raise Untranslated(f"{it.begin}: a `Debug` that isn't derived could be other code in what build.rs writes")
     del crate.constants["host::HOST"]
     return crate
 

@@ -46,7 +46,7 @@ class Crate:
         if not m or "{closure#" in m[3]:
             owner, _, name = function.path.rpartition("::")
             return None, owner, name
-        found = [it for it in self.impls if it.place == m[2] and it.module == m[1] and m[3] in it.methods]
+        found = [it for it in self.impls if it.begin == m[2] and it.module == m[1] and m[3] in it.methods]
         same = [it for it in self.functions if it.path == function.path]  # those of a macro, in the order of the impls
         own = found[same.index(function)] if len(found) == len(same) else None
         if not own or own.owner and re.search(r"^ *debug self => _1;", function.text, re.M) and referred(

@@ -31,7 +31,7 @@ def plain(text):
                                 for byte, number, escape, of in parts)
     text = re.sub(r"""^[^"'\n]*│.*|'([ -&(-\[\]-~])'|"((?:[^"\\\n]|\\.)*)\"""", plain_text, text, flags=re.M)
     statics = dict(re.findall(r"^(alloc\d+) \(static: ([\w:]+),", text, re.M))
-    text = re.sub(r"(?<=\{)alloc\d+(?=: )", lambda m: statics.get(m[0], "alloc"), text)
+    text = re.sub(r"(?<=\{)alloc\d+(?=: )", lambda m: statics.get(m[0], "?"), text)
     text = re.sub(r"<static\(DefId\(0:\d+ ~ \w+\[\w+\]::([\w:]+)\)\)>", r"{\1: }", text)
     text = re.sub(r"(<impl at |\{closure@).*?\b(out|src)/", r"\1\2/", text)
     text = re.sub(r"(?<![\w:])(core|alloc)::", "std::", re.sub(r"&'\w+ ", "&", text))
@@ -168,6 +168,8 @@ def read_mir(text):
         raise Unknown(f"the item {rest.splitlines()[0]}")
     for m in re.finditer(ITEM, text):
         name, _, promoted = m["name"].partition("::promoted[")
+        if re.search(r"\b(fn\(|dyn )", m["type"] or ""):
+            raise Unknown(f"a function as a value, {name}")
         value = operand("const " + m["value"]) if m["value"] else Function(
             name, m["parameters"] or "", m["result"] or m["type"], m["body"])
         if promoted:  # a constant of the function that is printed before
@@ -193,8 +195,8 @@ REFUSED = {
     r" Provided\(": "a function that a trait has for all types",
     r" disr_expr: (?!None,)": "a number of a variant",
 }
-# Where an impl begins, the module that it is in, the type and the trait, if they are paths, and its methods.
-Impl = namedtuple("Impl", "place module owner trait methods is_derived")
+# Where an impl begins, the module that it is in, the type and the trait, if they are paths, its methods, and its place.
+Impl = namedtuple("Impl", "begin module owner trait methods place")
 
 
 def std_trait(path):
@@ -211,11 +213,10 @@ def impl(path, crate, block):
     trait = of[2] and (of[2] if of[1] == crate else std_trait(of[2]))
     if not owner and (trait or "std::").startswith("std::"):  # such as of an alias
         raise Unknown(f"the type of {path}")
-    at = re.search(r"^ {16}span: .*?\b((?:out|src)/.+?:(\d+):(\d+)): (\d+):(\d+) ", block, re.M)
-    is_derived = at[2] == at[4] and int(at[5]) - int(at[3]) == len((trait or "").rpartition("::")[2])
+    at = re.search(r"^ {16}span: (.*?\b((?:out|src)/.+?:\d+:\d+): \d+:\d+) ", block, re.M)
     items = re.search(r"^ {24}items: \[(.*)", block, re.M)[1]
-    return Impl(at[1], path.rpartition("{impl#")[0].removesuffix("::"), owner, trait,
-                re.findall(r"owner_id: DefId\(\S+ ~ \S+::(\w+)\),", items), is_derived)
+    return Impl(at[2], path.rpartition("{impl#")[0].removesuffix("::"), owner, trait,
+                re.findall(r"owner_id: DefId\(\S+ ~ \S+::(\w+)\),", items), at[1])
 
 
 def read_hir(text):
@@ -223,7 +224,10 @@ def read_hir(text):
     part of an item, which has 24 spaces before it, is in its line, without places."""
     types, impls, aliases, paths = {}, [], [], set()
     text = re.sub(r"\n {25,}", " ", re.sub(r"\n {17,}(?:hir_id|span|vis_span): .*", "", text))
-    taken = {*BINARY, "Not", "PtrMetadata", *re.findall(r" name: Plain\( (\w+)#", text)}  # of generics
+    generics = {*re.findall(r" name: Plain\(\s+(.*?)#\d+,", text)}
+    if others := [it for it in generics if not re.fullmatch(r"'\w+|[A-Z]|__H|impl .*", it)]:
+        raise Unknown(f"a parameter of generics, {others[0]}, whose name could be another one's")
+    taken = {*BINARY, "Not", "PtrMetadata", *generics}
     for block in re.split(r"^(?=DefId\(0:(?!0 ))", text, flags=re.M)[1:]:  # without the crate's root
         m, kind = re.match(DEFINED + " => OwnerNodes", block), re.search(r"^ {16}kind: (\w+)", block, re.M)
         if not m or not kind or kind[1] not in KINDS:

@@ -24,14 +24,14 @@ def wrapped(type):
 
 def strip(type):
     """A type without what refers to it or owns it: these are its value."""
-    while inner := wrapped(type) or type.startswith("*const ") and type[7:]:
+    while inner := wrapped(type):
         type = inner
     return type
 
 
 def referred(type):
-    """What a reference of this type refers to."""
-    return strip(strip(type).removeprefix("&mut "))
+    """What a reference of this type refers to, or the pointer of a box."""
+    return strip(re.sub(r"^(&mut |\*const )", "", strip(type)))
 
 
 def arguments(type):
