@@ -9,7 +9,7 @@ impl Hash for VendorRef<'_> {
         match *self {
             VendorRef::Known(known) => known.to_vendor().hash(state),
             VendorRef::Custom(text) => {
-                // written by tools/names/write: the number of the variant of custom vendors, which a derived hash feeds
+                // written by tools/names/write: the variant of custom vendors, whose number a derived hash feeds
                 15_isize.hash(state);
                 // end of what is written
                 text.hash(state);
