@@ -2,20 +2,12 @@
 -- law, and cites a lemma of the files here; run/run and filter/filter have those of the two calls that the program
 -- makes. Begin with a law, and go from lemma to lemma.
 --
--- What a mode answers: LineLemmas (the lines of an input), AnswerLemmas, JsonAnswers (the answers to them),
--- UniqueOutputs (an input has at most one), MatrixLawLemmas (the laws of mode `matrix`).
--- Runs: UseLemmas (what reads gave and writes took), RunExistence (each input has an outcome), RunLawLemmas (the laws).
--- Filters: FilterLemmas (answers in a buffer, and the lines that were answered so far), FilterLoop (a filter between
--- its reads, and its ends), FilterLawLemmas (the laws). Common passes on the names that most of them import.
-pub mod AnswerLemmas
-pub mod Common
-pub mod FilterLawLemmas
-pub mod FilterLemmas
-pub mod FilterLoop
-pub mod JsonAnswers
-pub mod LineLemmas
-pub mod MatrixLawLemmas
-pub mod RunExistence
-pub mod RunLawLemmas
-pub mod UniqueOutputs
-pub mod UseLemmas
+-- Each file of lemmas is a child of the one that cites it, and passes on all names: an answer imports them from here.
+-- Filters: the laws; answers in a buffer, and the lines that were answered so far; a filter between its reads, and its
+-- ends.
+-- Filters/Runs: what reads gave and writes took; the laws; that each input has an outcome.
+-- Filters/Runs/Outputs: the lines of an input, and the answers to them; that an input has at most one output; the laws
+-- of mode `matrix`.
+-- Filters/Runs/Outputs/Names: the names of other modules that the proofs cite.
+pub mod Filters
+pub use Filters.*

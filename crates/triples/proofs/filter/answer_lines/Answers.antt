@@ -1,8 +1,6 @@
 -- The loop has answered the lines before `start`; what is left after the last line feed begins there.
-use Rattle.triples.proofs.Common.{◌++◌, HasNoFeed, List, ap, arith, drop, length, length-drop, rules, subst, take, ◌∙◌}
-use Rattle.triples.proofs.Common.{ℕ}
-use Rattle.triples.proofs.FilterLemmas.{answers-none, line-step, lines-failed, no-bytes, pushed-within, rest-of}
-use Rattle.triples.proofs.{UseLemmas.takes-none, UseLemmas.takes-then}
+use Rattle.triples.proofs.{ℕ, ◌∙◌, List, drop, take, ◌++◌, arith, rules, subst, rest-of, no-bytes, HasNoFeed, line-step}
+use Rattle.triples.proofs.{takes-none, takes-then, length-drop, length-take, answers-none, lines-failed, pushed-within}
 use Rattle.triples.proofs.filter.answer_lines.Goals as goal
 
 pub loop-at-init : goal.loop-at-init
@@ -14,31 +12,18 @@ loop-at-preserved g c =
     let found = c.in-Some.ensures in
     let room = c.in-Ok.ensures in
     let pushed = c.push_line-used.ensures in
-    let rest = drop c.loop-at.start c.args.bytes.now in
     record {
-      start =
-          omega (
-            arith,
-            found.0,
-            inv.start,
-            length-drop c.loop-at.start c.args.bytes.now,
-            rest-of c.args.bytes.now c.loop-at.start,
-            ap (λ (t : List ℕ). length t)
-                (rest-of c.args.bytes.now c.loop-at.start),
-          );
+      start = omega (arith, found.0, length-take {A = ℕ}, length-drop {A = ℕ});
       from = omega arith;
       searched = no-bytes;
-      used =
-          pushed-within _ c.loop-at.output c.push_line-used.new.out c.in-Ok.free c.push_line-used.result
-          (omega (arith, room.1)) pushed.pushed;
+      used = pushed-within (omega (arith, room.1)) pushed.pushed;
       unfailed = room.0 ∙ inv.unfailed;
       moves = room.5 ∙ inv.moves;
       written = (
         inv.written.0 ++ room.2,
         takes-then inv.written.1 room.3,
         line-step c.args.mode c.args.is_late c.loop-at.late c.args.bytes.now c.loop-at.start c.in-Some.at inv.written.0
-            room.2 c.loop-at.output c.push_line-used.new.out
-            c.loop-at.used c.in-Ok.free c.push_line-used.result inv.written.2 inv.start found pushed room.4,
+            room.2 c.loop-at.used inv.written.2 inv.start found pushed room.4,
       );
     }
 

@@ -1,6 +1,6 @@
 -- The lines before `start` were answered: what has gone to the writer and what is used of the buffer are their answers.
-use Rattle.triples.proofs.Common.{◌++◌, ◌-◌, ◌≤◌, AnswersLines, HasNoFeed, IsUnfailed, List, OnlyMoves, Takes, drop}
-use Rattle.triples.proofs.Common.{length, take, use_of, ℕ}
+use Rattle.triples.proofs.{AnswersLines}
+use Rattle.triples.proofs.{drop, HasNoFeed, IsUnfailed, length, List, OnlyMoves, take, Takes, use_of, ℕ, ◌++◌, ◌-◌, ◌≤◌}
 use Rattle.triples.proofs.filter.answer_lines.Given as goal
 
 abbrev pub invariant-loop-at : goal.invariant-loop-at

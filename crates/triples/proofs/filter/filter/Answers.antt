@@ -1,8 +1,7 @@
 -- The loop keeps what holds between two reads; each way out of it is one of the ends of `FilterEnds`.
-use Rattle.std.proofs.lemmas.Slice.{take-put_mid_below}
-use Rattle.triples.proofs.Common.{◌-◌, ◌^◌, ◌∙◌, ◌≡◌, ◌≤◌, [], ap, arith, length, length-take, refl, rules, take, ℕ}
-use Rattle.triples.proofs.FilterLoop.{between-kept, between-more, between-none, ends-endless, ends-read, ends-rest}
-use Rattle.triples.proofs.FilterLoop.{ends-write, has-read, none-read, searched-front, some-read}
+use Rattle.triples.proofs.{[], ap, arith, between-kept, between-more, between-none}
+use Rattle.triples.proofs.{ends-endless, ends-read, ends-rest, ends-write, has-read, length, length-take, none-read}
+use Rattle.triples.proofs.{refl, rules, searched-front, some-read, take, take-put_mid_below, ℕ, ◌-◌, ◌^◌, ◌∙◌, ◌≡◌, ◌≤◌}
 use Rattle.triples.proofs.filter.filter.Goals as goal
 
 pub loop-init : goal.loop-init

@@ -1,5 +1,4 @@
-use Rattle.triples.proofs.Common.{◌<◌, ◌≡◌, length, take, use_of}
-use Rattle.triples.proofs.FilterLoop.{IsBetweenReads}
+use Rattle.triples.proofs.{IsBetweenReads, length, take, use_of, ◌<◌, ◌≡◌}
 use Rattle.triples.proofs.filter.filter.Given as goal
 
 abbrev pub invariant-loop : goal.invariant-loop

@@ -1,7 +1,5 @@
-use Rattle.std.proofs.lemmas.List.{drop-take}
-use Rattle.triples.proofs.Common.{sym, take, ℕ, ◌+◌, ◌-◌, ◌∙◌, ◌≡◌, ◌≤◌, List, ap, arith, drop, length, length-drop}
-use Rattle.triples.proofs.Common.{rules}
-use lib.Seq.{paste, take-paste}
+use Rattle.triples.proofs.{ap, arith, drop, drop-take}
+use Rattle.triples.proofs.{length, length-drop, List, paste, rules, sym, take, take-paste, ℕ, ◌+◌, ◌-◌, ◌∙◌, ◌≡◌, ◌≤◌}
 use Rattle.triples.proofs.filter.keep_rest.Goals as goal
 
 -- the bytes that are copied to the front are those from `start` on

@@ -1,4 +1,4 @@
-use Rattle.triples.proofs.Common.{◌<◌, ◌≡◌, get_or, ℕ}
+use Rattle.triples.proofs.{get_or, ℕ, ◌<◌, ◌≡◌}
 use Rattle.triples.proofs.filter.line_end.Given as goal
 
 abbrev pub invariant-loop-i : goal.invariant-loop-i

@@ -1,7 +1,6 @@
 -- The answer to a line that is UTF-8 is what is shown of its triple, or its refusal.
-use Rattle.target_lexicon.specs.ValuesRef.{refusal_value}
-use Rattle.triples.proofs.Common.{IsRefusedAs, List, not_utf8, refl, rules, subst, ℕ}
-use Rattle.triples.proofs.FilterLemmas.{refused-pushes, shown-pushes, shown-short}
+use Rattle.triples.proofs.{IsRefusedAs, List}
+use Rattle.triples.proofs.{not_utf8, refl, refusal_value, refused-pushes, rules, shown-pushes, shown-short, subst, ℕ}
 use Rattle.triples.proofs.filter.push_answer.Goals as goal
 
 pub returns-in_default : goal.returns-in_default
@@ -25,5 +24,5 @@ returns-in-Err c =
     let line = c.in-Ok.ensures.cases in
     let refusal = refusal_value c.in-Err.refusal in
     let refused = subst (λ (text : List ℕ). IsRefusedAs text refusal) line.0 c.in-Err.ensures.err in
-    refused-pushes c.args.mode c.args.line.now refusal _ _ _ _ _ _ _ _ line.1 refused c.put-start.ensures
-    c.put_refusal-end.ensures c.put-in-Err.ensures
+    refused-pushes c.args.mode c.args.line.now refusal line.1 refused c.put-start.ensures c.put_refusal-end.ensures
+    c.put-in-Err.ensures

@@ -1,4 +1,4 @@
-use Rattle.triples.proofs.Common.{rules, refl, too_long}
+use Rattle.triples.proofs.{refl, rules, too_long}
 use Rattle.triples.proofs.filter.push_line.Goals as goal
 
 pub returns-then-is_late : goal.returns-then-is_late

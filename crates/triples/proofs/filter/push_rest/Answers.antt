@@ -1,5 +1,4 @@
-use Rattle.triples.proofs.Common.{◌<◌, ◌==◌, ◌≡◌, false, rules, ℕ}
-use Rattle.triples.proofs.FilterLemmas.{rest-answered}
+use Rattle.triples.proofs.{false, rest-answered, rules, ℕ, ◌<◌, ◌==◌, ◌≡◌}
 use Rattle.triples.proofs.filter.push_rest.Goals as goal
 
 not-empty : (n : ℕ) → (n == 0) ≡ false → 0 < n

@@ -1,4 +1,4 @@
-use Rattle.triples.proofs.{Common.arith, Common.common_steps, FilterLemmas.pushes-then}
+use Rattle.triples.proofs.{arith, common_steps, pushes-then}
 use Rattle.triples.proofs.filter.put_shown.Goals as goal
 
 pub returns-in-Show : goal.returns-in-Show

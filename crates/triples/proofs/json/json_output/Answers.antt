@@ -1,4 +1,4 @@
-use Rattle.triples.proofs.{Common.rules, JsonAnswers.input_error, JsonAnswers.read-some}
+use Rattle.triples.proofs.{input_error, read-some, rules}
 use Rattle.triples.proofs.json.json_output.Goals as goal
 
 pub returns-in_err-output-clause-err : goal.returns-in_err-output-clause-err

@@ -1,5 +1,4 @@
-use Rattle.triples.proofs.Common.{canonical_string, [], ◌∙◌}
-use Rattle.triples.proofs.MatrixLawLemmas.{entries-staying, first-entry, some-entry}
+use Rattle.triples.proofs.{[], canonical_string, entries-staying, first-entry, some-entry, ◌∙◌}
 use Rattle.triples.proofs.laws.each_canonical_triple_has_an_entry.Goals as goal
 
 pub returns : goal.returns

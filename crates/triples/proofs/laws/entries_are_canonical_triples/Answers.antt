@@ -1,4 +1,4 @@
-use Rattle.triples.proofs.{Common.rules, MatrixLawLemmas.entries_are_canonical_triples}
+use Rattle.triples.proofs.{entries_are_canonical_triples, rules}
 use Rattle.triples.proofs.laws.entries_are_canonical_triples.Goals as goal
 
 pub returns : goal.returns

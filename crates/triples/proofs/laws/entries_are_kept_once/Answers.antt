@@ -1,5 +1,4 @@
-use Rattle.triples.proofs.Common.{[]}
-use Rattle.triples.proofs.MatrixLawLemmas.{entries-staying, refusals-staying}
+use Rattle.triples.proofs.{[], entries-staying, refusals-staying}
 use Rattle.triples.proofs.laws.entries_are_kept_once.Goals as goal
 
 pub returns : goal.returns

@@ -1,4 +1,4 @@
-use Rattle.triples.proofs.Common.{rules}
+use Rattle.triples.proofs.{rules}
 use Rattle.triples.proofs.laws.errors_of_filters_are_exact.Goals as goal
 
 pub returns : goal.returns

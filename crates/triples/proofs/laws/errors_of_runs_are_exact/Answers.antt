@@ -1,6 +1,4 @@
-use Rattle.triples.proofs.Common.{List, ℕ}
-use Rattle.triples.proofs.RunLawLemmas.{failures-exact, judge, judged}
-use Rattle.triples.specs.RunLaws.{IsJudged}
+use Rattle.triples.proofs.{failures-exact, IsJudged, judge, judged, List, ℕ}
 use Rattle.triples.specs.declared.run_error.RunError.TheVariants as run_error
 use Rattle.triples.proofs.laws.errors_of_runs_are_exact.Goals as goal
 

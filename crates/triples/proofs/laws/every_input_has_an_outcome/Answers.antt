@@ -1,4 +1,4 @@
-use Rattle.triples.proofs.{Common.is_utf8, Common.refl, RunExistence.has-outcome, RunExistence.run-of}
+use Rattle.triples.proofs.{has-outcome, is_utf8, refl, run-of}
 use Rattle.triples.proofs.laws.every_input_has_an_outcome.Goals as goal
 
 pub returns : goal.returns

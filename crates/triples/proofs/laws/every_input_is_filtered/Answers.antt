@@ -1,4 +1,4 @@
-use Rattle.triples.proofs.FilterLawLemmas.{every_input_is_filtered}
+use Rattle.triples.proofs.{every_input_is_filtered}
 use Rattle.triples.proofs.laws.every_input_is_filtered.Goals as goal
 
 pub returns : goal.returns

@@ -1,4 +1,4 @@
-use Rattle.triples.proofs.FilterLawLemmas.{filters_agree_with_runs}
+use Rattle.triples.proofs.{filters_agree_with_runs}
 use Rattle.triples.proofs.laws.filters_agree_with_runs.Goals as goal
 
 pub returns : goal.returns

@@ -1,4 +1,4 @@
-use Rattle.triples.proofs.FilterLawLemmas.{end-one-way}
+use Rattle.triples.proofs.{end-one-way}
 use Rattle.triples.proofs.laws.filters_end_one_way.Goals as goal
 
 pub returns : goal.returns

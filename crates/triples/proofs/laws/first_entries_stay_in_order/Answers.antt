@@ -1,5 +1,4 @@
-use Rattle.triples.proofs.{Common.append-nil, Common.rules, AnswerLemmas.if_stays, AnswerLemmas.staying-push}
-use Rattle.triples.proofs.MatrixLawLemmas.{none-passes, one-passes}
+use Rattle.triples.proofs.{append-nil, if_stays, none-passes, one-passes, rules, staying-push}
 use Rattle.triples.proofs.laws.first_entries_stay_in_order.Goals as goal
 
 pub returns : goal.returns

@@ -1,4 +1,4 @@
-use Rattle.triples.proofs.{Common.rules, MatrixLawLemmas.matrices_are_their_own}
+use Rattle.triples.proofs.{matrices_are_their_own, rules}
 use Rattle.triples.proofs.laws.matrices_are_their_own.Goals as goal
 
 pub returns : goal.returns

@@ -1,4 +1,4 @@
-use Rattle.triples.proofs.RunLawLemmas.{outcome, same-outcome}
+use Rattle.triples.proofs.{outcome, same-outcome}
 use Rattle.triples.proofs.laws.runs_end_one_way.Goals as goal
 
 pub returns : goal.returns

@@ -1,7 +1,6 @@
 -- The lines so far have been answered.
-use Rattle.triples.proofs.Common.{◌≡◌, ◌≤◌, length, line_feed, lines_of, shown_by, split_terminator_parts}
-use Rattle.triples.proofs.Common.{split_terminator_pattern, split_text, string_bytes}
-use Rattle.triples.proofs.{AnswerLemmas.IsSoFar, LineLemmas.lines_left}
+use Rattle.triples.proofs.{IsSoFar, length, line_feed, lines_left, lines_of, shown_by}
+use Rattle.triples.proofs.{split_terminator_parts, split_terminator_pattern, split_text, string_bytes, ◌≡◌, ◌≤◌}
 use Rattle.triples.proofs.lines.answers.Given as goal
 
 abbrev pub invariant-loop-line : goal.invariant-loop-line

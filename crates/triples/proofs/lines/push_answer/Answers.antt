@@ -1,8 +1,7 @@
 -- The answer to a line is what is shown of its triple, which has a plain vendor, or its refusal.
-use Rattle.triples.proofs.Common.{◌++◌, ◌∙◌, ◌≡◌, List, ap, append_assoc, facts_of, rules, shown_by, string_bytes}
-use Rattle.triples.proofs.Common.{string_of, values_of, ℕ}
-use Rattle.triples.proofs.AnswerLemmas.{refusal-adds, shown-adds}
-use Rattle.triples.proofs.lines.push_answer.Goals.{in-Show+in_ok-push_facts-in-Show, in-Print-mode}
+use Rattle.triples.proofs.{ap, append_assoc, facts_of, List, refusal-adds}
+use Rattle.triples.proofs.{rules, shown-adds, shown_by, string_bytes, string_of, values_of, ℕ, ◌++◌, ◌∙◌, ◌≡◌}
+use Rattle.triples.proofs.lines.push_answer.Goals.{in-Print-mode, in-Show+in_ok-push_facts-in-Show}
 use Rattle.triples.proofs.lines.push_answer.Goals as goal
 
 pub settle-shown-requires : goal.settle-shown-requires

@@ -1,7 +1,6 @@
 -- Each iteration adds the entry of the first line that is left.
-use Rattle.triples.proofs.AnswerLemmas.{matrix-more, matrix-none, matrix-whole, none-seen}
-use Rattle.triples.proofs.Common.{◌∙◌, arith, common_steps, rules}
-use Rattle.triples.proofs.LineLemmas.{lines_left-none, lines_left-some}
+use Rattle.triples.proofs.{arith, common_steps, lines_left-none}
+use Rattle.triples.proofs.{lines_left-some, matrix-more, matrix-none, matrix-whole, none-seen, rules, ◌∙◌}
 use Rattle.triples.proofs.matrix.matrix.Goals as goal
 
 pub loop-line-init : goal.loop-line-init

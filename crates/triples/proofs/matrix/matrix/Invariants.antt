@@ -1,7 +1,6 @@
 -- The output is the matrix of the lines so far, and its triples have been seen.
-use Rattle.triples.proofs.Common.{◌≡◌, ◌≤◌, length, line_feed, lines_of, split_terminator_parts}
-use Rattle.triples.proofs.Common.{split_terminator_pattern, split_text, string_bytes}
-use Rattle.triples.proofs.{AnswerLemmas.IsMatrixSoFar, LineLemmas.lines_left}
+use Rattle.triples.proofs.{IsMatrixSoFar, length, line_feed, lines_left, lines_of}
+use Rattle.triples.proofs.{split_terminator_parts, split_terminator_pattern, split_text, string_bytes, ◌≡◌, ◌≤◌}
 use Rattle.triples.proofs.matrix.matrix.Given as goal
 
 abbrev pub invariant-loop-line : goal.invariant-loop-line

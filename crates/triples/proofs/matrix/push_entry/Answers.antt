@@ -1,5 +1,5 @@
 -- The entry of a line is its canonical triple, printed, or its refusal.
-use Rattle.triples.proofs.{Common.rules, AnswerLemmas.read-enters, AnswerLemmas.refusal-enters}
+use Rattle.triples.proofs.{read-enters, refusal-enters, rules}
 use Rattle.triples.proofs.matrix.push_entry.Goals as goal
 
 pub settle-requires : goal.settle-requires

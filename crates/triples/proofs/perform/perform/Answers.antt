@@ -1,6 +1,4 @@
-use Rattle.triples.proofs.Common.{◌∙◌, ◌≡◌, Option, Some, ap, refl, use_of}
-use Rattle.triples.specs.{Program.Concludes, declared.request.Request.Request}
-use Rattle.triples.specs.{declared.request.Request.TheVariants.Run}
+use Rattle.triples.proofs.{ap, Concludes, Option, refl, Request, Run, Some, use_of, ◌∙◌, ◌≡◌}
 use Rattle.triples.proofs.perform.perform.Goals as goal
 
 pub returns-in-Some-Run : goal.returns-in-Some-Run

@@ -1,4 +1,4 @@
-use Rattle.triples.proofs.Common.{rules}
+use Rattle.triples.proofs.{rules}
 use Rattle.triples.proofs.request.request_named.Goals as goal
 
 pub returns-in-Some : goal.returns-in-Some

@@ -1,7 +1,6 @@
 -- What was written is the output of the mode, and a flush keeps it.
-use Rattle.triples.proofs.Common.{arith, refl, rules}
-use Rattle.triples.proofs.RunLawLemmas.{as-error, is-text, no-output-ends, write-ends, written-ends}
-use Rattle.triples.proofs.UseLemmas.{takes-all, takes-kept, takes-none}
+use Rattle.triples.proofs.{as-error, is-text}
+use Rattle.triples.proofs.{no-output-ends, refl, rules, takes-all, takes-kept, takes-none, write-ends, written-ends}
 use Rattle.triples.proofs.run.run.Goals as goal
 
 pub returns-in_err-output : goal.returns-in_err-output
@@ -18,20 +17,7 @@ pub returns-in_err-write_all : goal.returns-in_err-write_all
 returns-in_err-write_all g c = search (rules, is-text, as-error, write-ends)
 
 pub returns-in-Ok-flush : goal.returns-in-Ok-flush
-returns-in-Ok-flush g c =
-    let line = c.in-Ok.ensures.cases in
-    let read = is-text c.in_ok-bytes.ensures.bytes c.in_ok-bytes.ensures.whole c.deref.ensures.value line.0 line.1 in
-    let wrote = c.in_ok-write_all.ensures in
-    let flushed = c.in-Ok-flush.ensures in
-    record {
-      ends =
-          written-ends read c.in_ok-output.ensures.output
-          (takes-kept (rw c.as_bytes.ensures.value at wrote.whole) c.flush.ensures.bytes c.flush.ensures.moved) (
-            flushed.ended,
-            omega (arith, flushed.count, wrote.unfailed),
-            (omega (arith, flushed.stops, wrote.moves), flushed.last),
-          );
-    }
+returns-in-Ok-flush g c = search (rules, written-ends, takes-kept, is-text) depth 7 fits 3000
 
 pub returns : goal.returns
 returns g c = search (rules, is-text, write-ends, takes-all, takes-kept)

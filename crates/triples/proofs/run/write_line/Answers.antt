@@ -1,6 +1,5 @@
 -- What was written before an error is a beginning of the line.
-use Rattle.triples.proofs.Common.{◌∷◌, [], line_feed, rules}
-use Rattle.triples.proofs.UseLemmas.{takes-all, takes-kept, takes-more, takes-part, takes-then}
+use Rattle.triples.proofs.{[], line_feed, rules, takes-all, takes-kept, takes-more, takes-part, takes-then, ◌∷◌}
 use Rattle.triples.proofs.run.write_line.Goals as goal
 
 pub returns-in_err-write_all-clause-begun : goal.returns-in_err-write_all-clause-begun

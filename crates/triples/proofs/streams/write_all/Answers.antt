@@ -1,7 +1,6 @@
 -- What was written so far and `rest` together are the bytes; so it is a beginning of them wherever the loop ends.
-use Rattle.triples.proofs.Common.{take-append-drop, ℕ, ◌++◌, ◌∙◌, List, [], ap, append-nil, common_steps, refl, rules}
-use Rattle.triples.proofs.Common.{sym, take}
-use Rattle.triples.proofs.UseLemmas.{takes-beginning, takes-kept, takes-none, takes-then}
+use Rattle.triples.proofs.{[], ap, append-nil, common_steps, List, refl, rules, sym}
+use Rattle.triples.proofs.{take, take-append-drop, takes-beginning, takes-kept, takes-none, takes-then, ℕ, ◌++◌, ◌∙◌}
 use Rattle.triples.proofs.streams.write_all.Goals as goal
 
 pub loop-rest-init : goal.loop-rest-init

@@ -1,12 +1,9 @@
 -- `after` makes a struct of no bytes from two references.
-use Rattle.triples.proofs.Common.{◌$◌, ◌∵◌, !, After, Stays, Trace, Val, agg, alive, alloc_all, bytes_of, done, emp}
-use Rattle.triples.proofs.Common.{ends_at, enter, free_all, fst∗, look_at, move, named, no_more, owns, pass_all, plain}
-use Rattle.triples.proofs.Common.{proved, pure_i, qed, raw, returns, says, sets, suffices, tables, via, vnil, vstruct}
-use Rattle.triples.proofs.Common.{walk_of, yes, ‵}
-use mathlib.Core.{Path.refl, List.List, List.[], List.◌∷◌}
-use denote.{Ref.shr_vals, Ref.shr_Tells, Signature.types_at, Triple.Walked.stay_none_ref, Triple.Walked.Goes-none_ref}
-use Rattle.triples.specs.contracts.trace.Trace.{the_row as R}
-use Rattle.triples.proofs.trace.Trace.after.Statement.{statement}
+use Rattle.triples.proofs.{ !, [], After, agg, alive, alloc_all, bytes_of, done, emp, ends_at, enter, free_all}
+use Rattle.triples.proofs.{fst∗, Goes-none_ref, List, look_at, move, named, no_more, owns, pass_all, plain, proved}
+use Rattle.triples.proofs.{pure_i, qed, raw, refl, returns, says, sets, shr_Tells, shr_vals, stay_none_ref, Stays}
+use Rattle.triples.proofs.{suffices, tables, Trace, types_at, Val, via, vnil, vstruct, walk_of, yes, ‵, ◌$◌, ◌∵◌, ◌∷◌}
+use Rattle.triples.{proofs.trace.Trace.after.Statement.statement, specs.contracts.trace.Trace.the_row as R}
 use Rattle.triples.specs.contracts.trace.Trace.after as f
 use Rattle.triples.proofs.trace.Trace.after.Code as code
 

@@ -1,8 +1,7 @@
 -- `new` makes the struct of no bytes, of no calls.
-use Rattle.triples.proofs.Common.{◌$◌, ◌∵◌, !, Stays, agg, alive, alloc_all, done, emp, ends_at, enter, free_all}
-use Rattle.triples.proofs.Common.{fst∗, look_at, move, no_more, owns, pass_all, proved, pure_i, qed, raw, returns}
-use Rattle.triples.proofs.Common.{says, sets, suffices, tables, via, vnil, vstruct, walk_of, ‵}
-use mathlib.Core.{Path.refl, List.[], List.◌∷◌}
+use Rattle.triples.proofs.{ !, [], agg, alive, alloc_all, done, emp, ends_at, enter}
+use Rattle.triples.proofs.{free_all, fst∗, look_at, move, no_more, owns, pass_all, proved, pure_i, qed, raw, refl}
+use Rattle.triples.proofs.{returns, says, sets, Stays, suffices, tables, via, vnil, vstruct, walk_of, ‵, ◌$◌, ◌∵◌, ◌∷◌}
 use Rattle.triples.proofs.trace.Trace.new.Statement.{statement}
 use Rattle.triples.specs.contracts.trace.Trace.new as f
 use Rattle.triples.specs.contracts.trace.Trace as made

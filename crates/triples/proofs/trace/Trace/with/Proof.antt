@@ -1,15 +1,11 @@
 -- `with` makes a struct of no bytes from three references.
-use Rattle.triples.proofs.Common.{◌$◌, ◌∵◌, !, Stays, Trace, Val, agg, alive, alloc_all, done, emp, ends_at, enter}
-use Rattle.triples.proofs.Common.{free_all, fst∗, look_at, move, named, no_more, owns, pass_all, plain, proved, pure_i}
-use Rattle.triples.proofs.Common.{qed, raw, returns, says, sets, suffices, tables, via, vnil, vstruct, walk_of, yes, ‵}
-use mathlib.Core.{Path.refl, List.List, List.[], List.◌∷◌}
-use denote.Slice.{shr_slice_vals, shr_slice_Tells}
-use denote.Triple.Walked.{stay_none_ref, Goes-none_ref, stay_none_slice, Goes-none_slice}
-use denote.{Builtin.u8, Ref.shr_vals, Ref.shr_Tells, Signature.types_at}
-use Rattle.triples.specs.Calls.{call_of}
-use Rattle.triples.specs.contracts.trace.Outcome.{the_row as S}
-use Rattle.triples.specs.contracts.trace.Trace.{the_row as R}
+use Rattle.triples.proofs.{ !, [], agg, alive, alloc_all, call_of, done, emp, ends_at}
+use Rattle.triples.proofs.{enter, free_all, fst∗, Goes-none_ref, Goes-none_slice, List, look_at, move, named, no_more}
+use Rattle.triples.proofs.{owns, pass_all, plain, proved, pure_i, qed, raw, refl, returns, says, sets, shr_slice_Tells}
+use Rattle.triples.proofs.{shr_slice_vals, shr_Tells, shr_vals, stay_none_ref, stay_none_slice, Stays, suffices}
+use Rattle.triples.proofs.{tables, Trace, types_at, u8, Val, via, vnil, vstruct, walk_of, yes, ‵, ◌$◌, ◌∵◌, ◌∷◌}
 use Rattle.triples.proofs.trace.Trace.with.Statement.{statement}
+use Rattle.triples.specs.contracts.trace.{Outcome.the_row as S, Trace.the_row as R}
 use Rattle.triples.specs.contracts.trace.Trace.with as f
 use Rattle.triples.proofs.trace.Trace.with.Code as code
 
