@@ -218,7 +218,7 @@ def antt_lists(table):
             variants(it).removeprefix("pub ") for it in table.families
             if it.variant in {*WITH_QUERIES, *families_with(table, "order", "width")}],
         "the law of names of each family": [
-            f"{it.word} = part-read_back architecture.{it.variant} spec.as_{it.word} (λ _. refl);"
+            f"{it.word} = part-read_back architecture.{it.variant} _ (λ _. refl);"
             for it in table.families],
         "hashes of each family": [
             f"one_field variants.{it.variant} (bare_hash_injective {contracts[it.word]}.enum tt (omega arith)),"

@@ -1,24 +1,23 @@
 -- Names parse back, and what is known of a string that parses; which strings have a row. The table is in Table.
 pub mod Table
 unfoldable pub use Table.*
-use Rattle.std.proofs.lemmas.List.{Folds.list_any-append, Splits.join_with_byte-slice_split, Splits.length-slice_split}
-use Rattle.std.proofs.lemmas.List.{Splits.slice_split_first, Splits.slice_split_none, Sums.fails_before_first}
+use Rattle.std.proofs.lemmas.List.Splits.{join_with_byte-slice_split, length-slice_split, slice_split_first}
+use Rattle.std.proofs.lemmas.Str.Parse.{IsNumeralModel, digits_value_short, numerals_by_value}
+use Rattle.std.proofs.lemmas.Bool.{cases_lt, cond-true, false_from_ne_true, le-leb, lt-ltb, not-true}
+use Rattle.std.proofs.lemmas.List.{Folds.list_any-append, Splits.slice_split_none, Sums.fails_before_first}
 use Rattle.std.proofs.lemmas.List.{Folds.list_any_at, Folds.list_any_none, Splits.slice_split_at, take-append-drop}
+use Rattle.lexicon_fields.specs.OperatingSystem.{system_version, system_with_version, text_after_prefix}
 use Rattle.lexicon_fields.specs.Vendor.{OwnsCustomString, has_vendor_form, is_admitted, owns_string, vendor_value}
 use Rattle.lexicon_fields.specs.Version.{piece_number_within, pieces_of, version_of_numbers, version_of_pieces}
-use Rattle.std.proofs.lemmas.{Fmt.decimal_is_IsNumeral, Map.Views.list_any-from_Contains, Str.Parse.digits_value_short}
-use Rattle.std.proofs.lemmas.{Map.Views.Contains-from_any, Str.Parse.IsNumeralModel, Str.Parse.numerals_by_value}
-use Rattle.std.proofs.lemmas.{Bool.false_from_ne_true, Fmt.digits_decimal, Fmt.length-decimal-le, Grind.common_steps}
-use Rattle.std.proofs.lemmas.{Bool.cases_lt, Bool.cond-true, Bool.le-leb, Bool.lt-ltb, Bool.not-true, List.length-drop}
-use Rattle.lexicon_fields.specs.{OperatingSystem.system_with_version, declared.architecture.Architecture.Architecture}
-use Rattle.lexicon_fields.specs.{Laws.NamesReadBack, OperatingSystem.system_version, OperatingSystem.text_after_prefix}
-use Rattle.lexicon_fields.specs.{Private.remaining_pieces, Private.version_after, declared.vendor.Vendor.Vendor}
-use Rattle.lexicon_fields.specs.{Laws.NamesReadBackOn, Names.value_named, Private.first_system, Vendor.IsCustom}
-use Rattle.std.specs.{Cmp.Lexicographic.nat_list_eq_equiv, Str.Parse.ParsesUnsigned, Str.Parse.without_leading_plus}
-use Rattle.std.specs.{Char.is_ascii_digit, List.join_with_byte, List.position_or_len, Str.Parse.digits_value}
+use Rattle.lexicon_fields.specs.declared.{architecture.Architecture.Architecture, vendor.Vendor.Vendor}
+use Rattle.std.proofs.lemmas.{Fmt.decimal_is_IsNumeral, Map.Views.Contains-from_any, Map.Views.list_any-from_Contains}
+use Rattle.std.proofs.lemmas.{Fmt.digits_decimal, Fmt.length-decimal-le, Grind.common_steps}
+use Rattle.std.specs.Str.Parse.{ParsesUnsigned, digits_value, without_leading_plus}
+use Rattle.lexicon_fields.specs.{Laws.NamesReadBackOn, Private.remaining_pieces, Private.version_after, Vendor.IsCustom}
+use Rattle.lexicon_fields.specs.{Laws.NamesReadBack, Names.value_named, Private.first_system, Put.IsPut}
 use Rattle.std.proofs.Math.{Bool.and-false, Seq.drop-append_seam, Seq.take-append_seam}
-use Rattle.{lexicon_fields.specs.Put.IsPut, std.specs.List.after_first, std.specs.List.before_first}
-use Rattle.std.specs.Result.{result_ok}
+use Rattle.std.specs.{Char.is_ascii_digit, Cmp.Lexicographic.nat_list_eq_equiv, List.before_first, List.position_or_len}
+use Rattle.std.specs.{List.after_first, List.join_with_byte, Result.result_ok}
 
 -- ---- What a look-up says about the string, and how to show that names parse back.
 
@@ -50,10 +49,6 @@ pub option_and_then-holds : {V U : Type 0} (P : V → Type 0) (Q : U → Type 0)
     → IfSome first P → ((v : V) → P v → IfSome (next v) Q) → IfSome (option_and_then next first) Q
 option_and_then-holds P Q next first of_first of_next = search rules
 
-pub option_or-holds : {V : Type 0} (P : V → Type 0) (first next : Option V) → IfSome first P → IfSome next P
-    → IfSome (option_or first next) P
-option_or-holds P first next of_first of_next = search rules
-
 pub option_or-none : {V : Type 0} (o : Option V) → option_or o None ≡ o
 option_or-none o = search rules
 
@@ -84,9 +79,9 @@ pub digits_model : IsNumeralModel (λ ds. list_all is_ascii_digit ds ≡ true) (
 digits_model = numerals_by_value _ (search rules)
 
 -- what `parse` at an unsigned type gives for a piece: the number, if it is within the limit of that type
-pub number_read : {E : Type 0} (k limit : ℕ) (piece : List ℕ) (r is : Result ℕ E) → limit + 1 ≡ 2 ^ k
+pub parsed : {E : Type 0} (k limit : ℕ) (piece : List ℕ) (r is : Result ℕ E) → limit + 1 ≡ 2 ^ k
     → ParsesUnsigned k 10 piece r → r ≡ is → piece_number_within limit piece ≡ result_ok is
-number_read k limit piece r is fits parses same = grind (arith, common_steps, digits_model.from, digits_model.to)
+parsed k limit piece r is fits parses same = grind (arith, common_steps, digits_model.from, digits_model.to)
 
 -- the pieces of a string after its first dot, and those of a string without a dot
 pub pieces_of-first : (text piece rest : List ℕ) → piece ≡ before_first (λ c. nat_eq c dot) text
@@ -111,24 +106,6 @@ pieces-more pieces p rest others ps is some more = is ∙ ap (λ x. p ∷ remain
 -- a string has a piece
 pub pieces_of-some : (text : List ℕ) → pieces_of text ≢ []
 pieces_of-some text none = omega (arith, length-slice_split (λ c. nat_eq c dot) text, ap length none)
-
--- the version of a string by its pieces
-
-pub no_major : (text p : List ℕ) (ps : List (List ℕ)) → pieces_of text ≡ p ∷ ps → piece_number_within 65535 p ≡ None
-    → version_of text ≡ None
-no_major text p ps pieces missing = search rules
-
-pub no_minor : (text p q : List ℕ) (ps : List (List ℕ)) → pieces_of text ≡ p ∷ q ∷ ps → piece_number_within 255 q ≡ None
-    → version_of text ≡ None
-no_minor text p q ps pieces missing = search rules
-
-pub no_patch : (text p q r : List ℕ) (ps : List (List ℕ)) → pieces_of text ≡ p ∷ q ∷ r ∷ ps
-    → piece_number_within 255 r ≡ None → version_of text ≡ None
-no_patch text p q r ps pieces missing = search rules
-
-pub too_many_pieces : (text p q r : List ℕ) (ps : List (List ℕ)) → pieces_of text ≡ p ∷ q ∷ r ∷ ps → ps ≢ []
-    → version_of text ≡ None
-too_many_pieces text p q r ps pieces more = search rules
 
 -- the name of a version parses as that version
 
@@ -159,7 +136,7 @@ version_of-name v major minor patch =
 
 -- a string is its prefix and the string after it
 text_after_prefix-read : (prefix text : List ℕ) → IfSome (text_after_prefix prefix text) (λ rest. text ≡ prefix ++ rest)
-text_after_prefix-read prefix text = search (rules, holds-if_read, cond_some, bytes_eq-Decides, take-append-drop)
+text_after_prefix-read prefix text = search (rules, cond_some, bytes_eq-Decides, take-append-drop)
 
 -- a string that begins with a prefix has the rest after it, and every other string has none
 pub has_prefix : (prefix text rest : List ℕ) → text ≡ prefix ++ rest → text_after_prefix prefix text ≡ Some rest
@@ -282,18 +259,8 @@ signed_digits-dash_free piece digits = grind (arith, common_steps, all-dash_free
 piece-read : (limit : ℕ) (piece : List ℕ) (n : ℕ) → limit ≤ 65535 → piece_number_within limit piece ≡ Some n
     → (is_dash_free piece ≡ true) × (n ≤ limit) × (length (decimal n) ≤ length piece)
 piece-read limit piece n small is =
-    search (
-      rules,
-      arith,
-      cond_some,
-      and_parts,
-      leb-true,
-      ltb-true,
-      signed_digits-dash_free,
-      length-decimal-le,
-      digits_value_short digits_model,
-      length-drop,
-    )
+    let short = digits_value_short digits_model (without_leading_plus piece) in
+    search (rules, arith, cond_some, and_parts, signed_digits-dash_free, length-decimal-le)
 
 -- the numbers of a version are those of its pieces
 numbers-read : (major minor patch : Option ℕ) (v : DeploymentTarget) → version_of_numbers major minor patch ≡ Some v
@@ -375,7 +342,7 @@ darwin_like_system-read : (rows : List (Pair (Option DeploymentTarget → Operat
     → ArePrefixes rows → IfSome (darwin_like_system rows text) (IsSystemRead text)
 darwin_like_system-read [] text are = tt
 darwin_like_system-read (row ∷ rows) text are =
-    search (rules, (darwin_like_system-read rows text are.1), option_or-holds, prefixed-read)
+    search (rules, (darwin_like_system-read rows text are.1), (prefixed-read row text are.0))
 
 -- a system with a fixed name has no version
 fixed-read : (text : List ℕ) → IfSome (fixed_operating_system_of text) (IsSystemRead text)

@@ -4,9 +4,9 @@ use Rattle.lexicon_fields.proofs.Names.{Bool, List, Option, Record, arith, false
 use Rattle.lexicon_fields.proofs.Names.{[], ap, inl, inr, sym, true, ◌&&◌, ◌++◌, ◌<◌, ◌^◌, ◌∙◌, ◌∷◌, ◌≡◌, ◌≤◌}
 use Rattle.std.{proofs.lemmas.Bool.Decides.Decides-like, proofs.lemmas.List.append_cancel_left, specs.Option.option_eq}
 use denote.Enum.{Bare.same_true, Bare.true_same, Declared.Choice, Declared.Declared, Declared.declared, Declared.intoss}
+use denote.Enum.{Bare.Bare, Bare.sameb, Bare.tag_one, Compared.Each, Compared.by, Declared.rowss, Enum.tag}
 use Rattle.{lexicon_fields.specs.Laws.HashInjective, std.specs.Cmp.Derive.of_values, std.specs.Hash.le_bytes}
-use denote.{Enum.Bare.tag_one, Enum.Compared.Each, Enum.Declared.rowss, Struct.Field.Field, Struct.Values.Values}
-use denote.Enum.{Bare.Bare, Bare.sameb, Compared.by, Enum.tag}
+use denote.Struct.{Field.Field, Values.Values}
 use Rattle.lexicon_fields.specs.contracts.deployment_target.DeploymentTargetPartialEq.TheImpl as version
 
 -- ---- Facts about two values of one variant of an enum.

@@ -4,12 +4,12 @@ pub mod Common
 unfoldable pub use Common.*
 use Rattle.std.proofs.lemmas.Map.{Keys.Less-from_sorted, Keys.sorted_from_all_adjacent, Text.is_eq-slice_cmp}
 use Rattle.std.proofs.lemmas.{List.Sums.AllPass-from_list_all, Option.get_or_from_slice_get, Option.slice_get-get_or}
+use Rattle.std.proofs.lemmas.{Bool.cases_Bool, Cmp.nat_list_cmp_total, Grind.common_steps, List.get_or-map}
 use Rattle.lexicon_fields.specs.{Private.values_meant, declared.table.Meaning.Meaning, declared.table.TheConstants.KEYS}
-use Rattle.lexicon_fields.specs.{Private.FieldValues, Search.search_steps, Search.steps_after, Search.steps_among}
-use Rattle.std.proofs.{Math.ListN.get_or-map as mapped, Math.Nat.mul-le-mul_right, lemmas.Cmp.nat_list_cmp_total}
-use Rattle.std.proofs.{Math.Nat.pow-suc, lemmas.Bool.cases_Bool, lemmas.Bool.cases_order, lemmas.Grind.common_steps}
-use Rattle.std.specs.{Cmp.nat_cmp_is, Int.from_be_bytes, List.Sorted.IsStrictlySortedBy, Ordering.ordering_reverse}
-use Rattle.std.{proofs.lemmas.List.get_or-map, specs.List.list_any, specs.Ordering.is_eq, specs.Ordering.is_lt}
+use Rattle.std.specs.{Int.from_be_bytes, List.Sorted.IsStrictlySortedBy, Ordering.is_eq, Ordering.ordering_reverse}
+use Rattle.lexicon_fields.specs.Search.{search_steps, steps_after, steps_among}
+use Rattle.std.proofs.Math.{ListN.get_or-map as mapped, Nat.mul-le-mul_right, Nat.pow-suc}
+use Rattle.std.specs.{List.list_any, Ordering.is_lt}
 
 -- ---- The strings of the rows: they are in strictly increasing order, and which strings are among them.
 
@@ -23,19 +23,15 @@ row_text-default i d below = search (rules, get_or_from_slice_get, slice_get-get
 
 -- each string precedes the next one
 
-less_from_is_lt : (o : Ordering) → is_lt o ≡ true → o ≡ Less
-less_from_is_lt o h = search rules
-
 abbrev is_rising : List (List ℕ) → Bool
 is_rising (x ∷ y ∷ texts) = is_lt (slice_cmp nat_cmp x y) && is_rising (y ∷ texts)
 is_rising _ = true
 
 rises : (texts : List (List ℕ)) (k : ℕ) → is_rising texts ≡ true → k + 1 < length texts
     → slice_cmp nat_cmp (get_or texts k []) (get_or texts (k + 1) []) ≡ Less
-rises [] k rising below = absurd (omega (arith, below))
-rises (x ∷ []) k rising below = absurd (omega (arith, below))
-rises (x ∷ y ∷ texts) zero rising below = search (rules, and_parts, less_from_is_lt)
+rises (x ∷ y ∷ texts) zero rising below = search (rules, and_parts)
 rises (x ∷ y ∷ texts) (suc k) rising below = search (rules, arith, and_parts, (rises (y ∷ texts) k))
+rises _ k rising below = search (rules, arith)
 
 pub row_texts_sorted : IsStrictlySortedBy (slice_cmp nat_cmp) row_texts
 unfolding row_texts
@@ -95,27 +91,15 @@ first_byte_decides : (k x y : ℕ) (xs ys : List ℕ) → AreBytes xs → x < y
     → prefix_key_of (suc k) (x ∷ xs) < prefix_key_of (suc k) (y ∷ ys)
 first_byte_decides k x y xs ys h less = search (rules, prefix_key_below, mul-le-mul_right)
 
-is_less : (x y : ℕ) → x < y → nat_cmp x y ≡ Less
-is_less x y h = sym (nat_cmp_is x y Less h)
-
-is_equal : (x y : ℕ) → x ≡ y → nat_cmp x y ≡ Equal
-is_equal x y h = sym (nat_cmp_is x y Equal h)
-
 -- the string with the smaller key comes first
 pub less_by_key : (k : ℕ) (a b : List ℕ) → AreBytes a → AreBytes b → prefix_key_of k a < prefix_key_of k b
     → slice_cmp nat_cmp a b ≡ Less
-less_by_key zero a b _ _ h = absurd (omega (arith, h))
-less_by_key (suc k) [] [] _ _ h = absurd (omega (arith, h))
 less_by_key (suc k) [] (y ∷ ys) _ _ h = refl
-less_by_key (suc k) (x ∷ xs) [] _ _ h = absurd (omega (arith, h))
 less_by_key (suc k) (x ∷ xs) (y ∷ ys) p q h =
-    grind (
-      arith,
-      (first_byte_decides k y x ys xs (λ i. q (suc i))),
-      (less_by_key k xs ys (λ i. p (suc i)) (λ i. q (suc i))),
-      is_equal,
-      is_less,
-    )
+    let other = first_byte_decides k y x ys xs (λ i. q (suc i)) in
+    let same = less_by_key k xs ys (λ i. p (suc i)) (λ i. q (suc i)) in
+    grind arith
+less_by_key k a b _ _ h = search (rules, arith)
 
 pub greater_by_key : (k : ℕ) (a b : List ℕ) → AreBytes a → AreBytes b → prefix_key_of k b < prefix_key_of k a
     → slice_cmp nat_cmp a b ≡ Greater
@@ -126,13 +110,9 @@ same_heads : (k : ℕ) (x y : ℕ) (xs ys : List ℕ) → AreBytes (x ∷ xs) �
     → prefix_key_of (suc k) (x ∷ xs) ≡ prefix_key_of (suc k) (y ∷ ys)
     → (x ≡ y) × (prefix_key_of k xs ≡ prefix_key_of k ys)
 same_heads k x y xs ys p q h =
-    search (
-      rules,
-      arith,
-      cases_order,
-      (first_byte_decides k x y xs ys (λ i. p (suc i))),
-      (first_byte_decides k y x ys xs (λ i. q (suc i))),
-    )
+    let less = first_byte_decides k x y xs ys (λ i. p (suc i)) in
+    let more = first_byte_decides k y x ys xs (λ i. q (suc i)) in
+    grind arith
 
 -- of two strings with the same key, not both of more than that many bytes, the shorter comes first
 pub order_of_same_key : (k : ℕ) (a b : List ℕ) → AreBytes a → AreBytes b → (k < length a → k < length b → ⊥)
@@ -151,7 +131,7 @@ pub order_of_rests : (k : ℕ) (a b : List ℕ) → AreBytes a → AreBytes b �
     → slice_cmp nat_cmp a b ≡ slice_cmp nat_cmp (drop k a) (drop k b)
 order_of_rests zero a b _ _ _ _ h = refl
 order_of_rests (suc k) (x ∷ xs) (y ∷ ys) p q m n h =
-    search (rules, arith, same_heads, is_equal, (order_of_rests k xs ys (λ i. p (suc i)) (λ i. q (suc i))))
+    grind (arith, same_heads, (order_of_rests k xs ys (λ i. p (suc i)) (λ i. q (suc i))))
 order_of_rests (suc k) a b _ _ m n h = search (rules, arith)
 
 -- the key of four to eight bytes, from the first four and the last four; bytes in both are shifted out of the last
@@ -187,18 +167,13 @@ pub values-are : (rows : List Row) (i : ℕ) (d : Row) → i < row_count
     → map (λ r. values_meant r.1) rows ≡ map name_values row_texts
     → values_meant (get_or rows i d).1 ≡ name_values (row_text i)
 values-are rows i d below values =
-    sym (mapped (λ (r : Row). values_meant r.1) rows i d)
-    ∙ ap (λ (values : List FieldValues). get_or values i (values_meant d.1)) values
-    ∙ get_or-map name_values row_texts i [] (values_meant d.1) (omega (arith, below, length-row_texts))
-
-keys-are : KEYS ≡ map (prefix_key_of 8) row_texts
-unfolding row_texts
-keys-are = refl
+    rw (← (mapped (λ (r : Row). values_meant r.1) rows i d), values)
+    (get_or-map name_values row_texts i [] _ (omega (arith, below, length-row_texts)))
 
 -- the key at an index is that of the row's string
 pub key-is : (i : ℕ) → i < row_count → get_or KEYS i 0 ≡ prefix_key_of 8 (row_text i)
-key-is i below = ap (λ (keys : List ℕ). get_or keys i 0) keys-are
-    ∙ get_or-map (prefix_key_of 8) row_texts i [] 0 (omega (arith, below, length-row_texts))
+unfolding row_texts
+key-is i below = get_or-map (prefix_key_of 8) row_texts i [] 0 (omega (arith, below))
 
 -- the string of a row is of bytes
 
@@ -268,11 +243,7 @@ module _ (old new later low size : ℕ) (text : List ℕ) (way : IsOnTheWay old 
       by_most : (most : ℕ) → size < 2 ^ most → new + steps_among most low size text ≡ old + search_steps text
           → IsCompared order
       by_most zero enough left = absurd (omega (arith, some, enough))
-      by_most (suc most) enough left = (
-        most,
-        omega (arith, enough, pow-suc 2 most),
-        omega (arith, left, among-some most low size text order some is),
-      )
+      by_most (suc most) enough left = (most, omega arith, omega (arith, among-some most low size text order some is))
 
   pub on-the-way-less : 0 < size → later ≡ new + 1 → slice_cmp nat_cmp (row_text (low + size / 2)) text ≡ Less
       → IsOnTheWay old later (low + (size - size / 2)) (size / 2) text

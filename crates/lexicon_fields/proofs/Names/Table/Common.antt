@@ -6,6 +6,7 @@ pub use Rattle.std.proofs.Common.{IfSome, Ok, Option, Result, get_or, is_none, i
 pub use Rattle.std.proofs.Common.{Bool, Equal, Iter, Less, List, None, arith, codes, false, nat_lt, rules, subst, tests}
 pub use Rattle.std.proofs.Common.{All, Err, Some, cond, drop, inl, inr, refl, take, true, zero, ◌&&◌, ◌++◌, ◌==◌, ◌||◌}
 pub use Rattle.std.proofs.Common.{ltb, map, not, suc, sym, w32, ◌%◌, ◌*◌, ◌+◌, ◌-◌, ◌/◌, ◌<◌, ◌^◌, ◌↔◌, ◌∙◌, ◌∷◌, ◌≡◌}
+pub use Rattle.std.proofs.lemmas.{List.length-append, Option.MatchOption-at_some, Slice.Eq.bytes_eq-Decides}
 pub use Rattle.std.proofs.lemmas.{Bool.and_parts, Bool.false≢true, Bool.leb-true, Bool.ltb-true, Option.cond_some}
 pub use Rattle.lexicon_fields.specs.{Laws.HashInjectiveOn, declared.deployment_target.DeploymentTarget.DeploymentTarget}
 pub use Rattle.lexicon_fields.specs.{Laws.HasVersionInRange, declared.operating_system.OperatingSystem.OperatingSystem}
@@ -14,14 +15,12 @@ pub use Rattle.lexicon_fields.specs.{Architecture.architecture_name, FixedRow.ro
 pub use Rattle.lexicon_fields.specs.{Environment.environment_name, OperatingSystem.version_suffix, Version.version_name}
 pub use Rattle.lexicon_fields.specs.{Laws.IsVersionInRange, Private.name_values, Private.prefix_key_of, Vendor.Custom}
 pub use Rattle.lexicon_fields.specs.{FixedRow.row_count, Names.is_dash_free, Names.named_values, Version.version_of}
-pub use Rattle.std.proofs.{Common.◌≢◌, Common.◌≤◌, lemmas.Option.MatchOption-at_some, lemmas.Slice.Eq.bytes_eq-Decides}
+pub use Rattle.lexicon_fields.specs.{FixedRow.has_row, Names.Pair, Names.dash, Put.Puts, Version.dot}
 pub use Rattle.std.specs.{Cmp.Lexicographic.slice_cmp, Hash.HashWrites, Option.option_or, Prelude.Decides, Str.bytes_eq}
-pub use Rattle.lexicon_fields.specs.{FixedRow.has_row, Names.Pair, Names.dash, Version.dot}
-pub use Rattle.std.{proofs.Common.◌⊎◌, proofs.lemmas.List.length-append, specs.Fmt.decimal, specs.List.list_all}
-pub use Rattle.{lexicon_fields.specs.Put.Puts, std.proofs.Common.[], std.proofs.Common.ap, std.specs.Borrow.Bor}
-pub use Rattle.std.{proofs.Common.ℕ, specs.Hash.usize}
+pub use Rattle.std.{proofs.Common.◌≢◌, proofs.Common.◌≤◌, proofs.Common.◌⊎◌, specs.Fmt.decimal, specs.List.list_all}
+pub use Rattle.std.{proofs.Common.[], proofs.Common.ap, proofs.Common.ℕ, specs.Borrow.Bor, specs.Hash.usize}
 pub use denote.Enum.Declared.{Record, tag_of}
 unfoldable pub use Rattle.lexicon_fields.specs.OperatingSystem.{fixed_operating_system_of, operating_system_of}
-unfoldable pub use Rattle.lexicon_fields.specs.{Environment.environment_of, FixedRow.row_texts, Vendor.known_vendor_of}
+unfoldable pub use Rattle.lexicon_fields.specs.Vendor.{known_vendor_of, vendor_of}
+unfoldable pub use Rattle.lexicon_fields.specs.{Environment.environment_of, FixedRow.row_texts}
 unfoldable pub use Rattle.lexicon_fields.specs.{Architecture.architecture_of, BinaryFormat.binary_format_of}
-unfoldable pub use Rattle.lexicon_fields.specs.Vendor.{vendor_of}

@@ -1,7 +1,7 @@
 -- The digits of a number are those of its tenth and one more.
 use Rattle.lexicon_fields.proofs.Names.{arith, decimal, length, length-append, puts_then, rules, ℕ, ◌+◌, ◌/◌, ◌<◌, ◌^◌}
-use Rattle.{lexicon_fields.proofs.Names.◌≡◌, std.proofs.lemmas.Fmt.decimal_digit, std.proofs.lemmas.Fmt.decimal_step}
-use Rattle.lexicon_fields.proofs.Names.{◌≤◌}
+use Rattle.std.proofs.lemmas.Fmt.{decimal_digit, decimal_step}
+use Rattle.lexicon_fields.proofs.Names.{◌≡◌, ◌≤◌}
 use Rattle.lexicon_fields.proofs.decimal.+put_decimal.Goals as goal
 
 one_more : (n : ℕ) → 10 ≤ n → n < 2 ^ 64 → length (decimal n) ≡ length (decimal (n / 10)) + 1

@@ -2,8 +2,8 @@
 -- ASCII.
 use Rattle.lexicon_fields.proofs.Names.{DeploymentTarget, IsVersionInRange, length-version, numbers-short, version_name}
 use Rattle.lexicon_fields.proofs.Names.{List, Puts, arith, decimal, dot, put_taken, puts_then, rules, ℕ, ◌∙◌, ◌∷◌, ◌≡◌}
-use Rattle.std.{proofs.lemmas.Fmt.IsAscii-decimal, proofs.lemmas.Str.IsUtf8-from_ascii, specs.Str.IsUtf8}
-use Rattle.std.proofs.lemmas.Str.{IsAscii-append}
+use Rattle.std.proofs.lemmas.{Fmt.IsAscii-decimal, Str.IsAscii-append, Str.IsUtf8-from_ascii}
+use Rattle.std.specs.Str.{IsUtf8}
 use Rattle.lexicon_fields.proofs.deployment_target.version_text.Goals as goal
 
 -- digits and dots are UTF-8

@@ -1,11 +1,10 @@
 -- Derived equality compares the variants and then the fields, and each of these comparisons decides equality.
-use Rattle.lexicon_fields.proofs.Values.{bare_field-Decides, one_field-Decides, option_eq-Decides, version-Decides}
-use Rattle.lexicon_fields.proofs.{Names.bytes_eq-Decides, Names.rules, Values.bare-Decides, Values.enum-Decides}
 use Rattle.std.proofs.lemmas.Bool.Decides.{Decides-and, Decides-like}
-use Rattle.lexicon_fields.proofs.Names.{refl}
+use Rattle.lexicon_fields.proofs.Names.{bytes_eq-Decides, refl, rules}
+use Rattle.lexicon_fields.proofs.Values.{bare_field-Decides, one_field-Decides, option_eq-Decides, version-Decides}
+use Rattle.lexicon_fields.proofs.Values.{bare-Decides, enum-Decides}
 use Rattle.lexicon_fields.specs.contracts.architecture.Architecture as architecture
 use Rattle.lexicon_fields.specs.contracts.operating_system.OperatingSystem as operating_system
-use Rattle.lexicon_fields.specs.contracts.architecture as contracts
 use Rattle.lexicon_fields.specs.contracts.known_vendor.KnownVendor as known_vendor
 use Rattle.lexicon_fields.specs.contracts.environment.Environment as environment
 use Rattle.lexicon_fields.specs.contracts.binary_format.BinaryFormat as binary_format

@@ -1,14 +1,11 @@
 -- A value feeds a hasher its variant and then its fields, and these bytes determine both, whatever follows them.
-use Rattle.lexicon_fields.proofs.Names.{DeploymentTarget, HashInjectiveOn, IsVersionInRange, VendorValue, known_vendors}
-use Rattle.lexicon_fields.proofs.Names.{Custom, HashWrites, IfSome, Known, Option, arith, length, refl, tag_of, usize}
+use Rattle.lexicon_fields.proofs.Names.{Custom, DeploymentTarget, HashInjectiveOn, IfSome, IsVersionInRange, Option, ap}
 use Rattle.lexicon_fields.proofs.Values.{Distinguishes, bare_hash_injective, enum_hash_injective, variants_distinguish}
 use Rattle.lexicon_fields.proofs.Values.{first_byte, first_write, hash_injective_on, one_field, writes_after_first}
-use Rattle.lexicon_fields.specs.declared.vendor.{CustomVendor.CustomVendor, Vendor.Vendor}
-use Rattle.lexicon_fields.proofs.Names.{ap, sym, ◌++◌, ◌∙◌, ◌≡◌}
-use Rattle.{lexicon_fields.specs.Vendor.custom_string, lexicon_fields.specs.Vendor.vendor_value, std.specs.Hash.option}
-use Rattle.{lexicon_fields.proofs.Values.same_u16, std.specs.Hash.le_bytes, std.specs.Hash.str}
+use Rattle.lexicon_fields.proofs.{Names.arith, Names.refl, Names.rules, Values.same_u16}
+use Rattle.lexicon_fields.specs.{Vendor.custom_string, declared.vendor.CustomVendor.CustomVendor}
+use Rattle.std.specs.Hash.{le_bytes, option, str}
 use Rattle.lexicon_fields.specs.declared.architecture.Architecture.TheVariants as variants
-use Rattle.lexicon_fields.specs.declared.operating_system.OperatingSystem.TheVariants as systems
 use Rattle.lexicon_fields.specs.contracts.vendor.VendorHash.TheImpl as vendor_hash
 use Rattle.lexicon_fields.specs.contracts.operating_system.OperatingSystemHash.TheImpl as operating_system_hash
 use Rattle.lexicon_fields.specs.contracts.deployment_target.DeploymentTargetHash.TheImpl as version_hash
@@ -38,14 +35,6 @@ system_version-hash = hash_injective_on system_version-distinguishes (λ x y. ap
 
 custom_vendor-hash : HashInjectiveOn (λ (x : CustomVendor). Unit {0}) custom_string (λ x. str (custom_string x))
 custom_vendor-hash = grind (arith, hash_injective_on, first_write, writes_after_first)
-
--- what a vendor value feeds
-abbrev value_hash : VendorValue → HashWrites
-value_hash (Known known) = usize (tag_of known_vendor.the_type known)
-value_hash (Custom text) = usize (length known_vendors) ++ str text
-
-hash_by_value : (x : Vendor) → vendor_hash.ghosts.hash_input x ≡ value_hash (vendor_value x)
-hash_by_value x = grind arith
 
 pub returns : goal.returns
 returns c = record {
@@ -77,21 +66,12 @@ returns c = record {
   vendor =
       hash_injective_on (variants_distinguish vendor.enum vendor_hash.ghosts.hash_input (omega arith) (λ x. refl)
       _ _ (one_field Custom custom_vendor-hash, tt))
-      (λ x y same. hash_by_value x ∙ ap value_hash same ∙ sym (hash_by_value y));
+      (λ x y same. grind arith);
   version = hash_injective_on version_distinguishes (λ x y. ap version_hash.ghosts.hash_input);
   operating_system =
       hash_injective_on (variants_distinguish operating_system.enum operating_system_hash.ghosts.hash_input
-      (omega arith) (λ x. refl) _ _ (assumption (
-        -- written by tools/names/write: hashes of each versioned system
-        one_field systems.Darwin system_version-hash,
-        one_field systems.IOS system_version-hash,
-        one_field systems.MacOSX system_version-hash,
-        one_field systems.TvOS system_version-hash,
-        one_field systems.VisionOS system_version-hash,
-        one_field systems.WatchOS system_version-hash,
-        one_field systems.XROS system_version-hash,
-        -- end of what is written
-      ))) (λ x y. ap operating_system_hash.ghosts.hash_input);
+      (omega arith) (λ x. refl) _ _ (search (rules, one_field, system_version-hash)))
+      (λ x y. ap operating_system_hash.ghosts.hash_input);
   environment = bare_hash_injective environment.enum tt (omega arith);
   binary_format = bare_hash_injective binary_format.enum tt (omega arith);
   endianness = bare_hash_injective endianness.enum tt (omega arith);

@@ -1,6 +1,6 @@
 -- What follows the prefix is empty, a version, or refused, as `version_after` says of a string with the prefix.
-use Rattle.lexicon_fields.{proofs.Names.has_no_prefix, specs.Private.version_after}
-use Rattle.lexicon_fields.proofs.Names.{has_prefix, rules}
+use Rattle.lexicon_fields.proofs.Names.{has_no_prefix, has_prefix, rules}
+use Rattle.lexicon_fields.specs.Private.{version_after}
 use Rattle.lexicon_fields.proofs.operating_system.version_after.Goals as goal
 
 pub returns-in_err-rest : goal.returns-in_err-rest

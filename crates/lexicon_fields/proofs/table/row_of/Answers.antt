@@ -4,8 +4,7 @@ use Rattle.lexicon_fields.proofs.Names.{binary_format_of, environment_of, fixed_
 use Rattle.lexicon_fields.proofs.Names.{architecture_of, known_vendor_of, on-the-way-first, on-the-way-less, row-exists}
 use Rattle.lexicon_fields.proofs.Names.{found-there, name_values, no_row-above, no_row-below, no_row-outside, none-left}
 use Rattle.lexicon_fields.proofs.Names.{arith, has_row, row_count, row_text-is, row_texts, subst, text-is, values-are}
-use Rattle.lexicon_fields.proofs.Names.{List, refl, sym, true, ◌+◌, ◌/◌, ◌<◌}
-use Rattle.lexicon_fields.proofs.Names.{ap, ℕ, ◌≡◌}
+use Rattle.lexicon_fields.proofs.Names.{List, ap, refl, sym, true, ℕ, ◌+◌, ◌/◌, ◌<◌, ◌≡◌}
 use Rattle.lexicon_fields.proofs.table.row_of.Goals as goal
 
 pub loop-size-init : goal.loop-size-init

@@ -1,6 +1,6 @@
 -- `new` makes the struct of no bytes, with count 0.
-use Rattle.{lexicon_fields.proofs.steps.Steps.new.Statement.statement, std.proofs.raw_atomic.Walks.proved}
-use Rattle.lexicon_fields.proofs.Names.{[], refl, ◌∷◌}
+use Rattle.lexicon_fields.proofs.{Names.[], Names.refl, Names.◌∷◌, steps.Steps.new.Statement.statement}
+use Rattle.std.proofs.raw_atomic.Walks.{proved}
 use base.Logic.{emp, fst∗, via}
 use contract.Running.{tables}
 use denote.Triple.{Entry.alive, Walked.Stays, Walked.ends_at, Walked.says, Walked.walk_of}
