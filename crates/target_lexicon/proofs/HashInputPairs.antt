@@ -1,18 +1,13 @@
 -- Fields that are fed to a hasher one after another.
-use Rattle.target_lexicon.proofs.{HashInjectiveOn, HashWrites, arith, common_steps, ◌++◌}
+use Rattle.target_lexicon.proofs.{Architecture, HasVersionInRange, HashInjective, HashInjectiveOn, OperatingSystem}
+use Rattle.target_lexicon.proofs.{BinaryFormat, Environment, HashWrites, VendorValue, arith, common_steps, values, ◌++◌}
 
-module _ {T V W X Y : Type 0} {IsFirst : V → Type 0} {IsSecond : X → Type 0} {first : V → W} {second : X → Y}
-    {feed_first : V → HashWrites} {feed_second : X → HashWrites} (p : T → V) (q : T → X)
-    (one : HashInjectiveOn IsFirst first feed_first) (other : HashInjectiveOn IsSecond second feed_second) where
-  abbrev ArePair : T → Type 0
-  ArePair t = IsFirst (p t) × IsSecond (q t)
-
-  abbrev pair : T → W × Y
-  pair t = (first (p t), second (q t))
-
-  abbrev pair_hash : T → HashWrites
-  pair_hash t = feed_first (p t) ++ feed_second (q t)
-
-  -- two parts of a value are fed, one after the other
-  pub both_distinguish : HashInjectiveOn ArePair pair pair_hash
-  both_distinguish = grind (arith, common_steps)
+-- the five fields of a triple, whose vendor has a type of its own
+pub fields_distinguish : {T V : Type 0} {value : V → VendorValue} {feed_a : Architecture → HashWrites}
+    {feed_v : V → HashWrites} {feed_s : OperatingSystem → HashWrites} {feed_e : Environment → HashWrites}
+    {feed_f : BinaryFormat → HashWrites} (a : T → Architecture) (v : T → V) (s : T → OperatingSystem)
+    (e : T → Environment) (f : T → BinaryFormat) → HashInjective feed_a → HashInjectiveOn (λ (x : V). Unit {0}) value feed_v
+    → HashInjectiveOn HasVersionInRange (λ x. x) feed_s → HashInjective feed_e → HashInjective feed_f
+    → HashInjectiveOn (λ t. HasVersionInRange (s t)) (λ t. values (a t) (value (v t)) (s t) (e t) (f t))
+    (λ t. feed_a (a t) ++ (feed_v (v t) ++ (feed_s (s t) ++ (feed_e (e t) ++ feed_f (f t)))))
+fields_distinguish a v s e f architecture vendor system environment format = grind (arith, common_steps)

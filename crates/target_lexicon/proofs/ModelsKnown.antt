@@ -1,9 +1,9 @@
 -- The data models of triples.
-use Rattle.target_lexicon.proofs.{AppleAarch64, Architecture, CDataModel, PointerWidth, Values, option_map}
+use Rattle.target_lexicon.proofs.{AppleAarch64, Architecture, CDataModel, PointerWidth, Values, option_map, width_bits}
 use Rattle.target_lexicon.proofs.{CallingConvention, OperatingSystem, SystemV, convention_model_32, convention_model_64}
-use Rattle.target_lexicon.proofs.{ILP32, LLP64, LP64, None, Some, Wasm64, false, rules, ◌∙◌, ◌≡◌, ◌⊎◌}
+use Rattle.target_lexicon.proofs.{ILP32, Wasm32, Wasm64, has_ilp32, has_llp64, model_32, model_64, size_bits, sizes_of}
+use Rattle.target_lexicon.proofs.{LLP64, LP64, None, Some, ap, false, rules, ◌∙◌, ◌≡◌, ◌⊎◌}
 use Rattle.target_lexicon.proofs.{Option, convention_on, model_of_width, other_model_32, other_model_64, pointer_width}
-use Rattle.target_lexicon.proofs.{Wasm32, ap, has_ilp32, has_llp64, model_32, model_64, size_bits, sizes_of, width_bits}
 use Rattle.target_lexicon.specs.Queries.{data_model}
 
 -- a model has the pointer width by which it is chosen, and is one of three

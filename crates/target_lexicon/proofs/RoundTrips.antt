@@ -146,10 +146,7 @@ module _ (names : NamesAreRead) where
     tail-round : ¬ PrintsTheEspIdfString (values a v s e f) → ¬ ShowsOnlyNone (values a v s e f)
         → ReadsAfter (values a v s e f) (normal_step (values a v s e f))
     tail-round apart only_none = step_cases (ReadsAfter (values a v s e f)) (values a v s e f)
-        (λ is. absurd (none-apart _ none is))
-        (newlib-read (values a v s e f))
-        (λ is. absurd (apart is))
-        (λ is. absurd (only_none is))
+        (λ is. search (rules, none-apart)) (newlib-read (values a v s e f)) (λ is. search rules) (λ is. search rules)
         (λ outside. outside-read outside.newlib _ refl)
 
   -- architecture, vendor and system, parsed back
@@ -206,18 +203,20 @@ module _ (names : NamesAreRead) where
         → shows_unknowns (alone a v e f) ≡ false
         → reading_from (Some field.OperatingSystem) (unread a v operating_system.Unknown)
         (names_after_system false (alone a v e f)) ≡ Ok (normal_step (alone a v e f))
-    alone-reads v environment.Unknown f hidden = rw (alone-fixed a v environment.Unknown f (λ is. cc))
-        (alone-read a v f _
-        ∙ ap (λ x. Ok (values a v operating_system.Unknown environment.Unknown x))
-        (shown_unless_unknown f _ _ hidden (shown_or_implied (alone a v environment.Unknown f))))
-    alone-reads v environment.None f hidden = rw (alone-step v f, without_system v)
-        (simp (operating_system_of-environment environment.None)
-        (hidden-read a v operating_system.None_ f _
-        ∙ ap (λ x. Ok (values a v operating_system.None_ environment.Unknown x)) (none-shown v f)))
-    alone-reads v e f hidden = rw (alone-fixed a v e f (λ is. cc), without_system v, operating_system_of-environment e)
-        (simp (names.environment.reads_back e tt)
-        (format-read a v operating_system.Unknown e f (shows_binary_format (alone a v e f))
-        ∙ ap (λ x. Ok (values a v operating_system.Unknown e x)) (shown_or_implied (alone a v e f))))
+    alone-reads v e f hidden =
+        search (
+          rules,
+          alone-fixed,
+          alone-read,
+          shown_unless_unknown,
+          shown_or_implied,
+          alone-step,
+          without_system,
+          operating_system_of-environment,
+          hidden-read,
+          none-shown,
+          format-read,
+        )
 
     alone-round : (v : VendorValue) (e : Environment) (f : BinaryFormat) → is_plain v ≡ true
         → shows_unknowns (alone a v e f) ≡ false → Rounds false (alone a v e f)
@@ -307,17 +306,10 @@ module _ (names : NamesAreRead) (a : Architecture) (v : VendorValue) (s : Operat
   -- the step is none of the triples that print a special string
   step-apart : is_known_to_print (Ok (normal_step (values a v s e f))) ≡ false
   unfolding special_string
-  step-apart =
-      let t = values a v s e f in
-      let other : ¬ HasSpecialFields t = λ special. true≢false (sym (special_of_fields t special) ∙ ap is_some none) in
-      step_cases (λ u. is_known_to_print (Ok u) ≡ false) t
-      (λ is. absurd (other is.fields))
-      (λ is. rw (ap is_some none)
-      (no_esp-known a v s environment.Unknown (elf_if_unknown f) (rw ((row_of_system t is.system).1.vendor) refl)))
-      (λ is. absurd (apart is))
-      (λ is. let u = values a v operating_system.None_ environment.Unknown f in
-      rw (no_special u (λ special. true≢false (special_system u special))) (no_esp-none a v f))
-      (λ outside. rw (ap is_some none) (no_esp t apart))
+  step-apart = step_cases (λ u. is_known_to_print (Ok u) ≡ false) (values a v s e f)
+      (λ is. search (rules, special_of_fields)) (λ is. search (rules, no_esp-known, row_of_system))
+      (λ is. absurd (apart is)) (λ is. search (rules, no_special, special_system, no_esp-none))
+      (λ outside. search (rules, no_esp))
 
   joined-parts : (b : Bool) → let parts = shown_names b (values a v s e f) in
       parts_of (join_with_byte dash parts) ≡ parts
@@ -386,12 +378,7 @@ esp_idf-stays = refl
 -- with an unknown environment only the special strings decide whether a triple is unchanged
 unknown-stays : (t : Values) → t.environment ≡ environment.Unknown → ¬ HasSpecialFields t → ¬ PrintsTheEspIdfString t
     → normal_step t ≡ t
-unknown-stays t unknown special esp = outside-fixed t (record {
-  special = λ is. special is.fields;
-  newlib = λ is. let newlib = is.environment in cc;
-  esp = esp;
-  none = λ is. let none = is.environment in cc;
-})
+unknown-stays t unknown special esp = search (rules, outside-fixed)
 
 newlib-stays : (t : Values) → HidesNewlib t → let u = step_of (Some exceptions.HidesNewlib) t in
     normal_step u ≡ u
@@ -407,34 +394,19 @@ unfolding special_string
 none-stays a v f = search (rules, unknown-stays)
 
 pub second_changes_none : OneStepSettles
-second_changes_none t = step_cases (λ u. normal_step u ≡ u) t
-    (λ is. special-stays t is.fields)
-    (newlib-stays t)
-    (λ is. rw (ap (λ x. x.architecture) is, ap (λ x. x.operating_system) is) esp_idf-stays)
-    (λ is. none-stays t.architecture t.vendor t.binary_format)
-    (λ outside. outside-fixed t outside)
+second_changes_none t = step_cases (λ u. normal_step u ≡ u) t (λ is. search (rules, special-stays)) (newlib-stays t)
+    (λ is. search (rules, esp_idf-stays)) (λ is. search (rules, none-stays)) (outside-fixed t)
 
 -- the step keeps a triple plain
-
-step-vendor_plain : (t : Values) → is_plain t.vendor ≡ true → is_plain (normal_step t).vendor ≡ true
-step-vendor_plain t plain =
-    step_cases (λ u. is_plain u.vendor ≡ true) t (λ _. plain) (λ _. plain) (λ _. refl) (λ _. plain) (λ _. plain)
-
-step-version : (t : Values) → HasVersionInRange t.operating_system → HasVersionInRange (normal_step t).operating_system
-step-version t range =
-    step_cases (λ u. HasVersionInRange u.operating_system) t (λ _. range) (λ _. range) (λ _. range) (λ _. tt)
-    (λ _. range)
-
 pub step-plain : (t : Values) → IsPlainTriple t → IsPlainTriple (normal_step t)
-step-plain t plain = record { vendor = step-vendor_plain t plain.vendor; version = step-version t plain.version }
+step-plain t plain = step_cases IsPlainTriple t (λ _. search rules) (λ _. search rules) (λ _. search rules)
+    (λ _. search rules) (λ _. plain)
 
 -- a canonical form comes back, so no other one has its string
 
 module _ (round : RoundIsNormalStep) where
   pub canonical_values-comes_back : (t : Values) → IsPlainTriple t → ComesBack (canonical_values t)
-  canonical_values-comes_back t plain =
-      subst (λ (u : Values). ParsesAs (string_of (canonical_values t)) u) (second_changes_none (normal_step t))
-      (round (canonical_values t) (step-plain (normal_step t) (step-plain t plain)))
+  canonical_values-comes_back t plain = search (rules, second_changes_none, step-plain)
 
   pub canonical_are_keys : CanonicalStringsAreKeys
   canonical_are_keys = record {
@@ -468,17 +440,10 @@ alone-alike : (a : Architecture) (v : VendorValue) (f : BinaryFormat) → omits_
 alone-alike a v f omits = search rules
 
 pub kept : (t : Values) → HaveSameAnswers (normal_step t) t
-kept t =
-    let a = t.architecture in let v = t.vendor in let s = t.operating_system in let e = t.environment in
-    let f = t.binary_format in
-    step_cases (λ u. HaveSameAnswers u t) t
-    (λ special. let narrow = special-narrow t special in
-    alike_by_width a v v s _ e _ f (narrow_width (values a v s environment.Newlib binary_format.Elf) narrow
-    ∙ sym (narrow_width t narrow)))
-    (λ newlib. rw newlib.environment (alike_by_width a v v s _ _ _ f refl))
-    (λ esp. rw esp (alike_by_width _ _ _ _ _ _ _ _ refl))
-    (λ none. rw (none.operating_system, none.environment) (alone-alike a v f none.architecture))
-    (λ outside. alike_by_width a v v s e e f f refl)
+kept t = step_cases (λ u. HaveSameAnswers u t) t
+    (λ special. let narrow = special-narrow t special in search (rules, alike_by_width, narrow_width))
+    (λ newlib. search (rules, alike_by_width)) (λ esp. search rules) (λ none. search (rules, alone-alike))
+    (λ outside. search rules)
 
 -- What the string of a triple is read as, or refused as, by the laws alone.
 

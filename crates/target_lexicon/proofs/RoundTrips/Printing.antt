@@ -39,40 +39,7 @@ EachRow P (row ∷ rows) = P row × EachRow P rows
 row-facts : EachRow RowFacts special_rows
 unfolding special_values special_string architecture_of vendor_of known_vendor_of is_admitted operating_system_of
     fixed_operating_system_of environment_of binary_format_of
--- written by tools/names/write: facts of special strings
-row-facts = (
-  record {
-    parses = refl;
-    parts = refl;
-    prints = λ e f. refl;
-    newlib = refl;
-    short = omega arith;
-    bound = omega arith;
-    vendor = refl;
-    operating_system = refl;
-    implied = λ a e. refl;
-    in_range = tt;
-    narrow = refl;
-  },
-  (
-    record {
-      parses = refl;
-      parts = refl;
-      prints = λ e f. refl;
-      newlib = refl;
-      short = omega arith;
-      bound = omega arith;
-      vendor = refl;
-      operating_system = refl;
-      implied = λ a e. refl;
-      in_range = tt;
-      narrow = refl;
-    },
-    tt,
-  ),
-)
-
--- end of what is written
+row-facts = search rules
 
 -- what holds for each row holds for one that has the property
 of_row : (P Q : SpecialRow → Type 0) (rows : List SpecialRow) → EachRow Q rows → SomeRow P rows
@@ -174,9 +141,6 @@ newlib-plain t is = rw ((row_of_system t is.system).1.vendor) refl
 pub newlib-is : (e : Environment) → is_newlib e ≡ true → e ≡ environment.Newlib
 newlib-is e is = search rules
 
-pub both-is : (t : Values) → has_newlib_and_elf t ≡ true → HasNewlibAndElf t
-both-is t is = search rules
-
 none-is : (e : Environment) → is_none_environment e ≡ true → e ≡ environment.None
 none-is e is = search rules
 
@@ -203,25 +167,20 @@ facts-by : (t : Values) (special both newlib esp none plain : Bool)
     → FactsOf (cond special (cond both None (Some exceptions.PrintsAsSpecial))
     (cond newlib (Some exceptions.HidesNewlib) (cond esp (Some exceptions.PrintsTheEspIdfString)
     (cond none (Some exceptions.ShowsOnlyNone) (cond plain None (Some exceptions.VendorIsNotPlain)))))) t
-facts-by t true true newlib esp none plain is_s is_b is_n is_e is_o is_p = special-plain t (fields_of_special t is_s)
-facts-by t true false newlib esp none plain is_s is_b is_n is_e is_o is_p = record {
-  fields = fields_of_special t is_s;
-  others = λ is. false≢true (sym is_b ∙ rw (is.0, is.1) refl);
-}
-facts-by t false both true esp none plain is_s is_b is_n is_e is_o is_p =
-    let parts = and_parts (implies_newlib t.vendor t.operating_system) _ is_n in record {
-      environment = newlib-is t.environment parts.1;
-      system = system_of_newlib t parts.0;
-      others = λ special. false≢true (sym is_s ∙ special_of_fields t special);
-    }
-facts-by t false both false true none plain is_s is_b is_n is_e is_o is_p =
-    esp-is t.architecture t.vendor t.operating_system t.environment t.binary_format is_e
-facts-by t false both false false true plain is_s is_b is_n is_e is_o is_p =
-    let parts = and_parts (omits_unknown_system t.architecture t.operating_system) _ is_o in
-    let alone = alone-is t.architecture t.operating_system parts.0 in
-    record { architecture = alone.0; operating_system = alone.1; environment = none-is t.environment parts.1 }
-facts-by t false both false false false true is_s is_b is_n is_e is_o is_p = is_p
-facts-by t false both false false false false is_s is_b is_n is_e is_o is_p = is_p
+facts-by t special both newlib esp none plain is_s is_b is_n is_e is_o is_p =
+    search (
+      rules,
+      special-plain,
+      fields_of_special,
+      newlib-is,
+      system_of_newlib,
+      special_of_fields,
+      esp-is,
+      alone-is,
+      none-is,
+      and_parts,
+      false≢true,
+    )
 
 pub facts : (t : Values) → FactsOf (exception t) t
 facts t = facts-by t _ _ _ _ _ _ refl refl refl refl refl refl
@@ -231,10 +190,6 @@ facts t = facts-by t _ _ _ _ _ _ refl refl refl refl refl refl
 pub special-exception : (t : Values) → PrintsAsSpecial t → exception t ≡ Some exceptions.PrintsAsSpecial
 unfolding special_string
 special-exception t is = search rules
-
--- with the special string's own environment and format
-pub special-own : (t : Values) → HasSpecialFields t → HasNewlibAndElf t → exception t ≡ None
-special-own t has is = rw (special_of_fields t has, is.0, is.1) refl
 
 pub newlib-exception : (t : Values) → HidesNewlib t → exception t ≡ Some exceptions.HidesNewlib
 unfolding special_string
@@ -286,12 +241,8 @@ changes (Some exceptions.VendorIsNotPlain) = false
 changes _ = true
 
 unchanged-outside : (t : Values) → changes (exception t) ≡ false → IsOutside t
-unchanged-outside t is = record {
-  special = λ other. false≢true (sym is ∙ ap changes (special-exception t other));
-  newlib = λ other. false≢true (sym is ∙ ap changes (newlib-exception t other));
-  esp = λ other. false≢true (sym is ∙ ap changes (esp-exception t other));
-  none = λ other. false≢true (sym is ∙ ap changes (only_none-exception t other));
-}
+unchanged-outside t is =
+    search (rules, special-exception, newlib-exception, esp-exception, only_none-exception)
 
 pub exceptions_are_facts : ExceptionsAreFactsOfFields
 exceptions_are_facts t = record {
@@ -506,11 +457,10 @@ weight-next : (p : List ℕ) (ps : List (List ℕ)) (f : Field) (fs : List Field
     → weight ps ≡ sizes_at ps fs → weight (p ∷ ps) ≡ sizes_at (p ∷ ps) (f ∷ fs)
 weight-next p ps f fs none is = search rules
 
-weight-filled : {a b : State} {fs : List Field} {ps : List PlacedPart} → Fills a fs ps b []
-    → weight (strings_of ps) ≡ sizes_at (strings_of ps) fs
+weight-filled : {a b : State} {fs : List Field} {ps : List (List ℕ)} → Fills a fs ps b [] → weight ps ≡ sizes_at ps fs
 weight-filled Stop = omega arith
 weight-filled (Take {f = f} {fs = fs} {p = p} {ps = ps} found w) =
-    weight-next p.text (strings_of ps) f fs (absent f f (strings_of ps) refl (omega arith) w) (weight-filled w)
+    weight-next p ps f fs (absent f f ps refl (omega arith) w) (weight-filled w)
 
 -- the name of a field's value, which grows at most so
 value-growth : {A : Type 0} (name : A → List ℕ) (find : List ℕ → Option A) (unfilled : A) (bytes : ℕ) (growth : A → ℕ)
@@ -564,16 +514,21 @@ abbrev HasUnknownLast : List (List ℕ) → List Field → Type 0
 HasUnknownLast ps fs = part_at field.BinaryFormat ps fs ≡ Some (binary_format_name binary_format.Unknown)
     → part_at field.Environment ps fs ≢ None
 
+no_environment : (l : Field) (p : List ℕ) (f : Field) → field_number l < 3 → field_for (expected_after l) p ≡ Some f
+    → parses_as field.Environment p ≡ true → field_number f ≤ 3
+no_environment l p f near found takes =
+    rw found at (first-least (expected_after l) p field.Environment ((open-after l field.Environment).1 near) takes)
+
 unknown-next : (l : Field) (p : List ℕ) (ps : List (List ℕ)) (f : Field) (fs : List Field) → field_number l < 3
     → field_for (expected_after l) p ≡ Some f
     → (field_number f < 3 → HasUnknownLast ps fs) → HasUnknownLast (p ∷ ps) (f ∷ fs)
-unknown-next l p ps f fs near found later = search (rules, first-least, open-follows, unknown-environment)
+unknown-next l p ps f fs near found later = search (rules, no_environment, unknown-environment)
 
-unknown-last : (l : Field) {a b : State} {fs : List Field} {ps left : List PlacedPart} → a.expected ≡ expected_after l
-    → field_number l < 3 → Fills a fs ps b left → HasUnknownLast (strings_of ps) fs
-unknown-last l is near (Stop {ps = ps}) = search (rules, absent-none, strings_of)
+unknown-last : (l : Field) {a b : State} {fs : List Field} {ps left : List (List ℕ)} → a.expected ≡ expected_after l
+    → field_number l < 3 → Fills a fs ps b left → HasUnknownLast ps fs
+unknown-last l is near Stop = search (rules, absent-none)
 unknown-last l is near (Take {f = f} {fs = fs} {p = p} {ps = ps} found w) =
-    unknown-next l p.text (strings_of ps) f fs near (rw is at found) (λ later. unknown-last f refl later w)
+    unknown-next l p ps f fs near (rw is at found) (λ later. unknown-last f refl later w)
 
 module _ (formats : TextsAreNames binary_format_name binary_format_of)
     (environments : TextsAreNames environment_name environment_of)
@@ -651,10 +606,9 @@ module _ (formats : TextsAreNames binary_format_name binary_format_of)
   abbrev GrowsAtMost : List ℕ → Values → Type 0
   GrowsAtMost text t = length (string_of t) ≤ length text + 22
 
-  by_fields : (p : PlacedPart) (ps : List PlacedPart) (fs : List Field) (b : State) (t : Values)
-      → Fills (after field.Architecture p start) fs ps b []
-      → HoldsParts (strings_of (p ∷ ps)) (field.Architecture ∷ fs) t
-      → GrowsAtMost (join_with_byte dash (strings_of (p ∷ ps))) t
+  by_fields : (p : List ℕ) (ps : List (List ℕ)) (fs : List Field) (b : State) (t : Values)
+      → Fills (after field.Architecture p start) fs ps b [] → HoldsParts (p ∷ ps) (field.Architecture ∷ fs) t
+      → GrowsAtMost (join_with_byte dash (p ∷ ps)) t
   unfolding string_of
   by_fields p ps fs b t filled holds =
       special-short t (shows_unknowns t) _ (omega (
@@ -665,23 +619,22 @@ module _ (formats : TextsAreNames binary_format_name binary_format_of)
             holds.vendor,
         value-growth operating_system_name operating_system_of operating_system.Unknown 4 system_growth systems
             (λ s. (system_growth-within s).0) (omega arith) _ t.operating_system holds.operating_system,
-        after_system-growth formats environments architectures p.text t _ _ (shows_unknowns t) refl holds.architecture
+        after_system-growth formats environments architectures p t _ _ (shows_unknowns t) refl holds.architecture
             holds.environment holds.binary_format (unknown-last field.Architecture refl (omega arith) filled),
         weight-parts t (shows_unknowns t),
         weight-shown t (shows_unknowns t),
-        weight-joined p.text (strings_of ps),
-        weight-next p.text (strings_of ps) field.Architecture fs
-            (absent field.Architecture field.Architecture (strings_of ps) refl (omega arith) filled)
-            (weight-filled filled),
+        weight-joined p ps,
+        weight-next p ps field.Architecture fs
+            (absent field.Architecture field.Architecture ps refl (omega arith) filled) (weight-filled filled),
       ))
 
-  by_filled : (ps : List PlacedPart) (fs : List Field) (b : State) (t : Values) → ps ≢ [] → Fills start fs ps b []
-      → HoldsParts (strings_of ps) fs t → GrowsAtMost (join_with_byte dash (strings_of ps)) t
-  by_filled ps fs b t some (Stop) holds = absurd (some refl)
+  by_filled : (ps : List (List ℕ)) (fs : List Field) (b : State) (t : Values) → ps ≢ [] → Fills start fs ps b []
+      → HoldsParts ps fs t → GrowsAtMost (join_with_byte dash ps) t
+  by_filled ps fs b t some Stop holds = absurd (some refl)
   by_filled ps fs b t some (Take {f = f} {fs = gs} {p = p} {ps = qs} found w) holds =
-      let is = (first-is p.text f found).0 in
+      let is = (opened (Some field.Architecture) p f found).0 in
       by_fields p qs gs b t (subst (λ g. Fills (after g p start) gs qs b []) is w)
-      (subst (λ g. HoldsParts (strings_of (p ∷ qs)) (g ∷ gs) t) is holds)
+      (subst (λ g. HoldsParts (p ∷ qs) (g ∷ gs) t) is holds)
 
   row-grows : (row : SpecialRow) → RowFacts row → GrowsAtMost row.text (special_triple row)
   unfolding string_of
@@ -690,12 +643,7 @@ module _ (formats : TextsAreNames binary_format_name binary_format_of)
   by_placement : (parts : List (List ℕ)) (fs : List Field) (t : Values) → parts ≢ [] → IsLeastPlacement parts fs
       → HoldsParts parts fs t → GrowsAtMost (join_with_byte dash parts) t
   by_placement parts fs t some least holds =
-      let same = texts-placed 0 parts in
-      let placed = placed_from 0 parts in
-      let more : placed ≢ [] = λ none. some (sym same ∙ ap strings_of none) in
-      let filled = least-filled placed fs more (subst (λ ps. IsLeastPlacement ps fs) (sym same) least) in
-      subst (λ ps. GrowsAtMost (join_with_byte dash ps) t) same
-      (by_filled placed fs filled.0 t more filled.1 (subst (λ ps. HoldsParts ps fs t) (sym same) holds))
+      let filled = least-filled parts fs least in by_filled parts fs filled.0 t some filled.1 holds
 
   pub printed_max_growth : PrintedStringsGrowAtMost
   printed_max_growth = read-holds GrowsAtMost row-grows by_placement

@@ -1,8 +1,6 @@
 -- Two errors are equal if both expected the same field and have the same part, or if both are out of memory.
-use Rattle.target_lexicon.proofs.{Decides, Field, List, None, Option, Refusal, Some, bytes_eq, option_map, refl, ℕ, ◌≡◌}
-use Rattle.target_lexicon.proofs.{Decides-like, bytes_eq-Decides, false≢true, option_map_or, refusal_with, string_bytes}
-use Rattle.target_lexicon.proofs.{[], ap}
-use Rattle.target_lexicon.specs.Field as field
+use Rattle.target_lexicon.proofs.{Decides, Field, List, Option, Refusal, Some, [], ap, bytes_eq, refl, ℕ, ◌≡◌}
+use Rattle.target_lexicon.proofs.{Decides-like, bytes_eq-Decides, false≢true, option_map, option_map_or, refusal_with}
 use Rattle.target_lexicon.specs.declared.parse_error.ParseError.TheVariants as error
 use Rattle.target_lexicon.proofs.laws.errors_are_equal_by_value.Goals as goal
 
@@ -18,16 +16,11 @@ same_part expected p q =
     Decides-like _ (ap (λ part. Some (refusal_with expected part))) (ap part_of) (bytes_eq-Decides p q)
 
 pub returns : goal.returns
-returns c (error.UnrecognizedArchitecture p) (error.UnrecognizedArchitecture q) =
-    same_part (Some field.Architecture) (string_bytes p) (string_bytes q)
-returns c (error.UnrecognizedVendor p) (error.UnrecognizedVendor q) =
-    same_part (Some field.Vendor) (string_bytes p) (string_bytes q)
-returns c (error.UnrecognizedOperatingSystem p) (error.UnrecognizedOperatingSystem q) =
-    same_part (Some field.OperatingSystem) (string_bytes p) (string_bytes q)
-returns c (error.UnrecognizedEnvironment p) (error.UnrecognizedEnvironment q) =
-    same_part (Some field.Environment) (string_bytes p) (string_bytes q)
-returns c (error.UnrecognizedBinaryFormat p) (error.UnrecognizedBinaryFormat q) =
-    same_part (Some field.BinaryFormat) (string_bytes p) (string_bytes q)
-returns c (error.UnrecognizedField p) (error.UnrecognizedField q) = same_part None (string_bytes p) (string_bytes q)
+returns c (error.UnrecognizedArchitecture p) (error.UnrecognizedArchitecture q) = same_part _ _ _
+returns c (error.UnrecognizedVendor p) (error.UnrecognizedVendor q) = same_part _ _ _
+returns c (error.UnrecognizedOperatingSystem p) (error.UnrecognizedOperatingSystem q) = same_part _ _ _
+returns c (error.UnrecognizedEnvironment p) (error.UnrecognizedEnvironment q) = same_part _ _ _
+returns c (error.UnrecognizedBinaryFormat p) (error.UnrecognizedBinaryFormat q) = same_part _ _ _
+returns c (error.UnrecognizedField p) (error.UnrecognizedField q) = same_part _ _ _
 returns c error.OutOfMemory error.OutOfMemory = (λ _. refl, λ _. refl)
 returns c _ _ = (λ same. absurd (false≢true same), λ same. absurd (let same_field = ap expected_of same in cc))

@@ -1,8 +1,8 @@
 -- Two explanations are equal if their outcomes and all five sources are, and each of these comparisons decides
 -- equality.
-use Rattle.target_lexicon.proofs.{Bool, Decides-and, IsTrue, Result, SourceValues, result_eq, rules, sources_of, ◌↔◌}
+use Rattle.target_lexicon.proofs.{Bool, Decides, Decides-and, IsTrue, Result, SourceValues, result_eq, rules, ◌&&◌, ◌↔◌}
 use Rattle.target_lexicon.proofs.{Decides-like, TripleRef, placed_outcome, placed_refusal, source_values, values_of_ref}
-use Rattle.target_lexicon.{proofs.ap, proofs.◌≡◌, specs.declared.refusal.Refusal.Refusal}
+use Rattle.target_lexicon.{proofs.◌≡◌, specs.declared.refusal.Refusal.Refusal}
 use Rattle.target_lexicon.proofs.laws.explanations_are_equal_by_value.Goals as goal
 
 same_sources : (s t : SourceValues) → s.architecture ≡ t.architecture → s.vendor ≡ t.vendor
@@ -10,26 +10,19 @@ same_sources : (s t : SourceValues) → s.architecture ≡ t.architecture → s.
     → s.environment ≡ t.environment → s.binary_format ≡ t.binary_format → s ≡ t
 same_sources s t a v o e f = λ i. source_values (a i) (v i) (o i) (e i) (f i)
 
+sources-Decides : (s t : SourceValues) (a v o e f : Bool) → Decides a (s.architecture ≡ t.architecture)
+    → Decides v (s.vendor ≡ t.vendor) → Decides o (s.operating_system ≡ t.operating_system)
+    → Decides e (s.environment ≡ t.environment) → Decides f (s.binary_format ≡ t.binary_format)
+    → Decides (a && (v && (o && (e && f)))) (s ≡ t)
+sources-Decides s t a v o e f is_a is_v is_o is_e is_f = search (rules, same_sources, Decides-and, Decides-like)
+
 pub returns-clause-source : goal.returns-clause-source
 returns-clause-source c = search rules
 
 pub returns-clause-sources : goal.returns-clause-sources
 returns-clause-sources c x y =
     let source = returns-clause-source c in
-    Decides-like _
-    (λ same. same_sources (sources_of x) (sources_of y) same.0 same.1.0 same.1.1.0 same.1.1.1.0 same.1.1.1.1)
-    (λ same. (
-      ap (λ s. s.architecture) same,
-      (
-        ap (λ s. s.vendor) same,
-        (ap (λ s. s.operating_system) same, (ap (λ s. s.environment) same, ap (λ s. s.binary_format) same)),
-      ),
-    ))
-    (Decides-and _ _ (source x.architecture y.architecture)
-    (Decides-and _ _ (source x.vendor y.vendor)
-    (Decides-and _ _ (source x.operating_system y.operating_system)
-    (Decides-and _ _ (source x.environment y.environment)
-    (source x.binary_format y.binary_format)))))
+    sources-Decides _ _ _ _ _ _ _ (source _ _) (source _ _) (source _ _) (source _ _) (source _ _)
 
 module _ (eq_triple : TripleRef → TripleRef → Bool) (eq_refusal : Refusal → Refusal → Bool)
     (triples : (x y : TripleRef) → IsTrue (eq_triple x y) ↔ (values_of_ref x ≡ values_of_ref y))

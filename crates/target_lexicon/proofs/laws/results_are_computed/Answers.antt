@@ -1,7 +1,6 @@
-use Rattle.target_lexicon.proofs.{Err, List, None, Option, Refusal, Some, inl, refl, refusal_of, values_of, ℕ}
+use Rattle.target_lexicon.proofs.{Err, List, None, Option, Refusal, Some, inl, inr, refl, refusal_of, values_of, ℕ, ◌≡◌}
 use Rattle.target_lexicon.proofs.{IsRefusedAs, IsResultOf, MatchOption, MayAllocate, Ok, ParseError, ResultsAreComputed}
-use Rattle.target_lexicon.proofs.{RoundTrips.Printing.Parsing.reading_computed, inr, ◌≡◌}
-use Rattle.target_lexicon.specs.GreedyReading.{reading}
+use Rattle.target_lexicon.{proofs.RoundTrips.Printing.Parsing.reading_computed, specs.GreedyReading.reading}
 use Rattle.target_lexicon.proofs.laws.results_are_computed.Goals as goal
 
 error-result : (text : List ℕ) (error : ParseError) (other : Option Refusal) → refusal_of error ≡ other

@@ -1,8 +1,8 @@
 -- The names that the proofs of this crate cite, passed on from one place. Declares nothing.
 use Rattle.lexicon_fields.specs as fields
 use Rattle.target_lexicon.specs
-pub use Rattle.lexicon_fields.{proofs.Values.bare_hash_injective, specs.declared.endianness.Endianness.Endianness}
-pub use Rattle.lexicon_fields.{proofs.Names.NamesAreRead, proofs.Names.names_are_read, specs.Put.IsPut}
+pub use Rattle.lexicon_fields.{proofs.Names.NamesAreRead, proofs.Names.names_are_read, specs.PointerWidth.width_bits}
+pub use Rattle.lexicon_fields.{proofs.Values.bare_hash_injective, specs.declared.known_vendor.KnownVendor.KnownVendor}
 pub use Rattle.serde_json.specs.Data.{Items}
 pub use Rattle.serde_json.specs.{Find.get_item, View.items_of, View.items_view, View.view, declared.value.Value.Value}
 pub use Rattle.std.proofs.Common.{All, Err, inl, inr, map, not, refl, suc, sym, take, true, zero, ◌&&◌, ◌++◌, ◌+◌, ◌||◌}
@@ -12,38 +12,36 @@ pub use Rattle.std.proofs.Common.{[], ap, ℕ, ◌-◌, ◌<◌, ◌^◌, ◌↔
 pub use Rattle.std.proofs.Output.{has_written_styled_append, has_written_styled_nil, has_written_styled_of_eq}
 pub use Rattle.std.proofs.lemmas.Bool.{and_parts, cases_Bool, eq-eqb, false≢true, ne_eqb, not-false, not-true}
 pub use Rattle.std.proofs.lemmas.List.Splits.{join_with_byte-slice_split, length-slice_split, slice_split_first}
-pub use Rattle.std.proofs.lemmas.List.{append-nil, length-append, map-append, take-map, take-take, take_all}
-pub use Rattle.std.proofs.lemmas.{Bool.Decides.Decides-and, Bool.Decides.Decides-like, Str.IsCharBoundary-after_ascii}
+pub use Rattle.std.proofs.lemmas.List.{Elements.All-append, append-nil, length-append, map-append, take-take, take_all}
+pub use Rattle.std.proofs.lemmas.{List.Splits.slice_split_at, List.Splits.slice_split_none, Result.IfErr-weaker}
 pub use Rattle.std.proofs.lemmas.{List.Sums.fails_before_first, List.Sums.position_or_len_is, Slice.Eq.bytes_eq-Decides}
-pub use Rattle.std.specs.List.Sorted.{IsStrictlyIncreasing}
-pub use Rattle.std.specs.List.{after_first, before_first, join_with_byte, onto_first, position_or_len, slice_range}
-pub use Rattle.std.specs.Prelude.{IfSome, MatchOption, MatchResult, option_map, slice_get, string_bytes, unwrap_or, ⊤}
-pub use Rattle.std.specs.{Prelude.IfErr, Prelude.IfOk, Prelude.IsTrue, Prelude.◌==◌, Result.IsErrAnd, Result.result_eq}
+pub use Rattle.std.specs.List.{AllZip, join_with_byte, list_all, onto_first, position_or_len, slice_range}
+pub use Rattle.std.specs.Prelude.{IfErr, IfSome, IsTrue, MatchOption, MatchResult, option_map, slice_get, unwrap_or, ⊤}
+pub use Rattle.std.specs.{Borrow.Bor, List.Sorted.IsStrictlyIncreasing, Result.IsErrAnd, Result.result_eq}
 pub use Rattle.std.{proofs.Math.Bool.and-false, proofs.Math.Bool.or-true, specs.Fmt.HasWrittenStyled, specs.Fmt.decimal}
+pub use Rattle.std.{proofs.lemmas.Bool.Decides.Decides-and, proofs.lemmas.Bool.Decides.Decides-like, specs.Prelude.◌==◌}
 pub use Rattle.std.{proofs.lemmas.Grind.common_steps, proofs.lemmas.Grind.put_two, specs.Str.IsUtf8, specs.Str.bytes_eq}
-pub use Rattle.std.{proofs.lemmas.List.Elements.All-append, specs.Bool.Decides, specs.Bool.then_some, specs.Borrow.Bor}
-pub use Rattle.std.{proofs.lemmas.List.Splits.slice_split_none, specs.Option.ForSome, specs.Option.option_map_or}
-pub use Rattle.std.{proofs.lemmas.Option.slice_get-map, specs.List.AllZip, specs.List.list_all}
-pub use Rattle.std.{proofs.lemmas.Result.IfErr-weaker, proofs.lemmas.Result.IfOk-weaker, specs.Hash.HashWrites}
-pub use fields.Laws.{HasVersionInRange, HashInjectiveOn, NamesAreShort, NamesGrowAtMost, TextsAreNames, max_name_length}
+pub use Rattle.std.{proofs.lemmas.Result.IfOk-weaker, specs.Bool.Decides, specs.Bool.then_some, specs.Hash.HashWrites}
+pub use Rattle.std.{proofs.lemmas.Str.IsCharBoundary-after_ascii, specs.Option.ForSome, specs.Option.option_map_or}
+pub use fields.Laws.{HasVersionInRange, HashInjective, HashInjectiveOn, NamesAreShort, NamesGrowAtMost, max_name_length}
+pub use fields.Laws.{TextsAreNames}
 pub use fields.OperatingSystem.{operating_system_name, system_version, version_suffix}
 pub use fields.Vendor.{OwnsCustomString, is_custom, is_plain, known_vendor_name, vendor_name, vendor_value}
-pub use fields.VendorRef.{ref_value}
 pub use fields.declared.architecture.Architecture.TheVariants.{Wasm32, Wasm64}
-pub use fields.declared.known_vendor.KnownVendor.{KnownVendor, TheVariants.Espressif, TheVariants.Unknown}
+pub use fields.declared.known_vendor.KnownVendor.TheVariants.{Espressif, Unknown}
 pub use fields.declared.{deployment_target.DeploymentTarget.DeploymentTarget, pointer_width.PointerWidth.PointerWidth}
-pub use fields.{Architecture.architecture_name, Environment.environment_name, PointerWidth.width_bits}
-pub use fields.{ArchitectureQueries.architecture_width, declared.pointer_width.PointerWidth.TheVariants.U32}
+pub use fields.{Architecture.architecture_name, Environment.environment_name, declared.endianness.Endianness.Endianness}
+pub use fields.{ArchitectureQueries.architecture_width, Put.IsPut, declared.pointer_width.PointerWidth.TheVariants.U32}
 pub use fields.{BinaryFormat.binary_format_name, Names.MatchesLookup, Names.dash, Names.is_dash_free, Names.value_named}
 pub use specs.ExceptionFacts.{ExceptionsAreFactsOfFields, HasSpecialFields, PrintsTheEspIdfString, VendorIsNotPlain}
-pub use specs.ExceptionFacts.{HasFieldsOf, HasNewlibAndElf, HasSystemOf, HidesNewlib, PrintsAsSpecial, ShowsOnlyNone}
+pub use specs.ExceptionFacts.{HasFieldsOf, HasSystemOf, HidesNewlib, PrintsAsSpecial, ShowsOnlyNone, SomeRow}
 pub use specs.Exceptions.{RoundTripException, exception, has_newlib_and_elf, is_custom_esp}
-pub use specs.Explanation.{AreFieldsOf, AreInString, IsInString, IsRefusedAt, SourceValue, placed_from, with_source}
+pub use specs.Explanation.{AreFieldsOf, AreInString, IsInString, PlacedPart, SourceValue, placed_from, with_source}
 pub use specs.Explanation.{AreSourcesOf, IsRefusedAfter, IsSourceInString, SourceValues, same_sources, source_values}
-pub use specs.Explanation.{FromPart, NotGiven, PlacedPart, part_from, part_value, source_at, sources_at, sources_of}
+pub use specs.Explanation.{FromPart, Implied, NotGiven, part_from, part_value, source_at, sources_at, sources_of}
 pub use specs.FixedPoints.{CanonicalStringsAreKeys, RefusedPartsDoNotGrow, RoundIsNormalStep, canonical_values}
 pub use specs.FixedPoints.{CanonicalStringsGrowAtMost, FixedExactlyOutsideExceptions, PrintedStringsGrowAtMost}
-pub use specs.GreedyReading.{HasFilled, field_for, finished, first_field, open_fields, reading_from, with_value}
+pub use specs.GreedyReading.{HasFilled, IsTaken, field_for, finished, reading_from, with_value}
 pub use specs.GreedyReading.{IsResultOf, ResultsAreComputed, finished_sources, reading_of_parts, reading_unless_special}
 pub use specs.Json.{ElementsParseAs, IsElementParsed, IsJsonErrorOf, JsonErrorValue, json_error_line, json_error_value}
 pub use specs.Laws.{ComesBack, EveryStringHasOneOutcome, HasOneLeastPlacement, ReadVendorsArePlain, ReadingIsComputed}
@@ -60,17 +58,16 @@ pub use specs.Values.{OperatingSystem, is_none_environment, is_same_format, is_u
 pub use specs.ValuesRef.{placed_outcome, placed_refusal, refusal_value, values_of_ref}
 pub use specs.declared.calling_convention.CallingConvention.TheVariants.{AppleAarch64, SystemV}
 pub use specs.declared.data_model.CDataModel.TheVariants.{ILP32, LLP64, LP64}
+pub use specs.declared.{calling_convention.CallingConvention.CallingConvention, parse_error.ParseError.ParseError}
 pub use specs.declared.{reading.Reading.Reading, triple.Triple.Triple, triple_ref.TripleRef.TripleRef}
-pub use specs.{CallingConvention.convention_name, declared.calling_convention.CallingConvention.CallingConvention}
+pub use specs.{CallingConvention.convention_name, Printing.cons_if, Printing.shows_unknowns, Printing.shows_vendor}
 pub use specs.{DataModel.model_name, DataModel.size_bits, DataModel.sizes_of, declared.data_model.CDataModel.CDataModel}
-pub use specs.{ExceptionFacts.SomeRow, Refusal.Refusal, Refusal.refusal_line, Refusal.refusal_of, Refusal.refusal_with}
-pub use specs.{Explanation.Implied, Values.Custom, Values.Known, Values.Values, Values.values, Values.values_of}
 pub use specs.{Field.Field, Field.field_number, Field.parses_as, Json.IsFirstError, Json.JsonParsesAs, Json.json_of}
-pub use specs.{FixedPoints.IsPlainTriple, FixedPoints.OneStepSettles, FixedPoints.max_growth, GreedyReading.IsTaken}
+pub use specs.{FixedPoints.IsPlainTriple, FixedPoints.OneStepSettles, FixedPoints.max_growth, QueryLaws.HaveSameAnswers}
 pub use specs.{ImpliedFormat.default_binary_format, ImpliedFormat.implied_format, Queries.model_32, Queries.model_64}
 pub use specs.{NormalStep.elf_if_unknown, NormalStep.step_of, declared.parse_error.ParseError.TheVariants.OutOfMemory}
-pub use specs.{Printing.cons_if, Printing.shows_unknowns, Printing.shows_vendor, Private.name_piece, Private.rest_parts}
-pub use specs.{QueryLaws.HaveSameAnswers, QueryLaws.QueriesKept, declared.parse_error.ParseError.ParseError}
+pub use specs.{Private.name_piece, Refusal.Refusal, Refusal.refusal_line, Refusal.refusal_of, Refusal.refusal_with}
+pub use specs.{QueryLaws.QueriesKept, Values.Custom, Values.Known, Values.Values, Values.values, Values.values_of}
 pub use specs.Field as field
 pub use specs.Values.architecture
 pub use specs.Values.binary_format
