@@ -11,22 +11,16 @@ pub fitting-answer : (mode : LineMode) (size : ℕ) (line : List ℕ) (answer : 
 fitting-answer mode size line answer less other text = search rules
 
 -- a line is too long, or it fits and is not UTF-8, or it fits and is UTF-8
-line-kind : (size : ℕ) (line : List ℕ)
+line-kind : (size : ℕ) (line : List ℕ) (b : Bool) → is_utf8 line ≡ b
     → (size ≤ length line) ⊎ ((length line < size) × ((IsUtf8 line → ⊥) ⊎ IsUtf8 line))
-line-kind size line = elim (cases_lt (length line) size) [
-  | inl less ↦ inr (
-    less,
-    elim (is_utf8 line) as (λ b. is_utf8 line ≡ b → (IsUtf8 line → ⊥) ⊎ IsUtf8 line)
-        [ true ↦ λ is. inr (IsUtf8-from_is_utf8 line is) | false ↦ λ is. inl (not-utf8 line is) ] refl,
-  )
-  | inr most ↦ inl most
-]
+line-kind size line true is = let utf8 = IsUtf8-from_is_utf8 line is in grind (arith, common_steps)
+line-kind size line false is = let other = not-utf8 line is in grind (arith, common_steps)
 
 module _ (one : EveryStringHasOneOutcome) (mode : LineMode) (size : ℕ) where
   filter_answer-some : (line : List ℕ) → (answer : Answer) × IsFilterAnswer mode size line answer
   filter_answer-some line =
       let found = answer-some one (shown_by mode) line in
-      elim (line-kind size line) [
+      elim (line-kind size line (is_utf8 line) refl) [
         | inl most ↦ (too_long, search rules)
         | inr (less, inl other) ↦ (not_utf8, search (rules, fitting-answer))
         | inr (less, inr utf8) ↦ (found.0, search (rules, fitting-answer))
@@ -35,7 +29,7 @@ module _ (one : EveryStringHasOneOutcome) (mode : LineMode) (size : ℕ) where
   filter_answer-unique : (line : List ℕ) (x y : Answer) → IsFilterAnswer mode size line x
       → IsFilterAnswer mode size line y → x ≡ y
   filter_answer-unique line x y a b =
-      let kind = line-kind size line in
+      let kind = line-kind size line (is_utf8 line) refl in
       let unique = answer-unique one (shown_by mode) line x y in grind (arith, common_steps, unique)
 
 pub every_input_is_filtered : EveryStringHasOneOutcome → EveryInputIsFiltered
@@ -253,20 +247,10 @@ module _ (mode : LineMode) (late : Bool) (bytes : List ℕ) where
       ([], search (rules, filtered-then, filtered-line, append_assoc), refl)
 
 -- the last line
-late-some : (late : Bool) (size : ℕ) (before bytes : List ℕ) → length bytes < size → (late ≡ false → 0 < length bytes)
-    → IsLate late size before → 0 < length (before ++ bytes)
-late-some late size before bytes less some fits = search (rules, length-append)
-
 pub rest-answered : (mode : LineMode) (late : Bool) (bytes : List ℕ) (answer : Answer)
     → (late ≡ false → 0 < length bytes) → IsLineAnswer mode late bytes answer
     → AnswersRest mode late bytes (written_lines (answer ∷ []))
-rest-answered mode late bytes answer some is = search (rules, late-some, line-answer)
-
--- an answer was put after what is used of the buffer, of which a part may have gone to the writer first
-pub used-more : (gone more written old new : List ℕ) (used now end : ℕ) → more ++ take now old ≡ take used old
-    → take end new ≡ take now old ++ written
-    → (gone ++ more) ++ take end new ≡ (gone ++ take used old) ++ written
-used-more gone more written old new used now end room pushed = grind (arith, common_steps, append_assoc)
+rest-answered mode late bytes answer some is = search (rules, length-append, line-answer)
 
 -- a slice from an index to the end
 pub rest-of : (bytes : List ℕ) (start : ℕ) → take (length bytes - start) (drop start bytes) ≡ drop start bytes
@@ -285,8 +269,8 @@ line-step mode late late_then bytes start at gone more used {old} {new} {free} {
     let along : start + at + 1 ≡ start + (at + 1) = omega arith in
     let next = answers-line mode late bytes late_then (drop start bytes) (gone ++ take used old) at pushed.answer far
     (omega (arith, length-drop start bytes)) (rw (rest-of bytes start) at ends) (rw same at pushed.is) in
-    let written = used-more gone more (written_lines (pushed.answer ∷ [])) old new used free end room
-    pushed.pushed.grown in
+    let written : (gone ++ more) ++ take end new ≡ (gone ++ take used old) ++ written_lines (pushed.answer ∷ []) =
+    rw (pushed.pushed.grown, ← room) (simp append_assoc) in
     rw (along, ← (drop-drop (at + 1) start bytes), written) next
 
 -- what was put is within the buffer
@@ -340,10 +324,6 @@ pub record IsBetweenReads (mode : LineMode) (size : ℕ) (late : Bool) (held : L
 beginning : (n : ℕ) (bytes more : List ℕ) → take n bytes ≡ take (length (take n bytes)) (bytes ++ more)
 beginning n bytes more = grind (arith, common_steps)
 
-longer : (late : Bool) (size : ℕ) (held before : List ℕ) → (late ≡ true) ⊎ (size ≤ length held)
-    → IsLate late size before → size ≤ length (before ++ held)
-longer late size held before long is = search (rules, length-append)
-
 pub between-none : {mode : LineMode} {size : ℕ} {r w : State}
     → IsBetweenReads mode size false [] (from_to r r) (from_to w w) 0
 between-none {mode} {size} {r} {w} =
@@ -361,7 +341,7 @@ pub between-kept : {mode : LineMode} {size : ℕ} {late : Bool} {rest : List ℕ
 between-kept {mode} {size} {late} {rest} {input} {written} {count} late_after new held (inl dropped) state =
     let all : HasAnswered mode size ((state.before ++ rest) ++ []) input written count = rw append-nil state.answered in
     let free = late-no-feed late size state.before rest state.is_late state.none in
-    let long = longer late size rest state.before dropped.2 state.is_late in
+    let long : size ≤ length (state.before ++ rest) = search (rules, length-append) in
     rw (dropped.1, dropped.0) (search (rules, no-bytes))
 between-kept late_after new held (inr kept) state = search (rules, common_steps)
 
@@ -507,11 +487,7 @@ pub record HasRead (held taken size : ℕ) (xs ys : List ℕ) : Type 0 where
   pub fits : length (take (held + taken) (put_mid held (length xs - held) xs ys)) ≤ size
   pub whole : length (put_mid held (length xs - held) xs ys) ≡ size
 
-length-read : (held : ℕ) (xs ys : List ℕ) → held ≤ length xs → length ys ≡ length xs - held
-    → length (put_mid held (length xs - held) xs ys) ≡ length xs
-length-read held xs ys within size = search (rules, places)
-
 pub has-read : (held taken size : ℕ) (xs ys : List ℕ) → held < length xs → length xs ≡ size → taken ≤ length ys
     → length ys ≡ length (take (length xs - held) (drop held xs)) → HasRead held taken size xs ys
 has-read held taken size xs ys within same count room =
-    search (rules, length-take, length-drop, length-read, take-append-add, take-append-le)
+    search (rules, length-take, length-drop, places, take-append-add, take-append-le)

@@ -400,30 +400,21 @@ module _ (one : EveryStringHasOneOutcome) (line : List ℕ) (t : Values) (reads 
 
 -- the entries of a matrix are their own matrix
 
--- two lists of lines have the same entries
-abbrev HaveSameEntries : List Answer → List Answer → Type 0
-HaveSameEntries xs ys = (text : List ℕ) → list_any (shows text) xs ≡ list_any (shows text) ys
-
 -- a line whose entry is already there adds none
-or-there : (there is : Bool) → (is ≡ true → there ≡ true) → (there || is) ≡ there
-or-there there is implied = search rules
+again-there : (xs : List Answer) (text other : List ℕ) → not (list_any (shows text) xs) ≡ false
+    → (list_any (shows other) xs || bytes_eq other text) ≡ list_any (shows other) xs
+again-there xs text other stays = search rules
 
-there-again : (xs : List Answer) (text other : List ℕ) → not (list_any (shows text) xs) ≡ false
-    → bytes_eq other text ≡ true → list_any (shows other) xs ≡ true
-there-again xs text other stays is = search rules
-
-stay-again : (before entries lines : List Answer) → HaveSameEntries before entries
+stay-again : (before entries lines : List Answer)
+    → ((text : List ℕ) → list_any (shows text) before ≡ list_any (shows text) entries)
     → kept_answers entries (only_entries (kept_answers before lines)) ≡ only_entries (kept_answers before lines)
 stay-again before entries [] same = refl
 stay-again before entries (Refused message ∷ lines) same =
     stay-again (before ++ Refused message ∷ []) entries lines (λ text. search (rules, push-any, or-false, same text))
 stay-again before entries (Shown text ∷ lines) same =
     let gone = λ (is : is_kept_after before (Shown text) ≡ false).
-    stay-again (before ++ Shown text ∷ []) entries lines (λ other. rw (
-      push-any,
-      or-there (list_any (shows other) before) (bytes_eq other text) (there-again before text other is),
-      same other,
-    )) in
+    stay-again (before ++ Shown text ∷ []) entries lines
+    (λ other. rw (push-any, again-there before text other is, same other)) in
     let there = stay-again (before ++ Shown text ∷ []) (entries ++ Shown text ∷ []) lines
     (λ other. rw (push-any, push-any, same other)) in
     let as_before = same text in search (rules, gone, there)

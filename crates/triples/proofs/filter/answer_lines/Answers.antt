@@ -45,15 +45,7 @@ pub returns-in-Ok-write_all-clause-lines : goal.returns-in-Ok-write_all-clause-l
 returns-in-Ok-write_all-clause-lines g c =
     let inv = c.loop-at.invariant in
     let none = subst (λ (t : List ℕ). HasNoFeed t) (rest-of c.args.bytes.now c.loop-at.start) c.in_default.ensures in
-    let wrote = c.in-Ok-write_all.ensures in (
-      wrote.unfailed ∙ inv.unfailed,
-      inv.start,
-      none,
-      inv.written.0 ++ take c.loop-at.used c.loop-at.output,
-      takes-then inv.written.1 wrote.whole,
-      inv.written.2,
-      wrote.moves ∙ inv.moves,
-    )
+    let taken = takes-then inv.written.1 c.in-Ok-write_all.ensures.whole in search rules
 
 pub returns-in-Err-clause-lines : goal.returns-in-Err-clause-lines
 returns-in-Err-clause-lines g c =
