@@ -1,5 +1,5 @@
-use Rattle.target_lexicon.proofs.ModelsKnown.{model_pointers}
+use Rattle.target_lexicon.proofs.{ModelsKnown.chosen, pointer_width}
 use Rattle.target_lexicon.proofs.laws.model_width.Goals as goal
 
 pub returns : goal.returns
-returns c = model_pointers
+returns c t m is = (chosen (pointer_width t) t.architecture t.operating_system m is).0

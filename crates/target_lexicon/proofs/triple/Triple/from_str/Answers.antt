@@ -1,5 +1,5 @@
-use Rattle.target_lexicon.proofs.{Err, IfErr, List, Ok, RoundTrips.Printing.read_plain, Triple, inl, ℕ, ◌≡◌}
-use Rattle.target_lexicon.proofs.{IsErrAnd, IsErrorOf, IsRefusedAs, OutOfMemory, ParseError, Refusal, Result, values_of}
+use Rattle.target_lexicon.proofs.{Err, IfErr, List, Ok, RoundTrips.Printing.read_plain, inl, rules, ◌≡◌}
+use Rattle.target_lexicon.proofs.{IsErrAnd, IsErrorOf, IsRefusedAs, OutOfMemory, ParseError, Refusal, Result, Triple, ℕ}
 use Rattle.target_lexicon.proofs.triple.Triple.from_str.Goals as goal
 
 -- parsing a refused string may run out of memory
@@ -14,6 +14,4 @@ returns-in_err-to_error-in-Err-clause-err c =
     refused-error c.args.text.now _ c.in-Err.ensures.err _ c.from_residual-in_err-to_error-in-Err.ensures.1
 
 pub returns-in_ok-to_triple-in-Ok-clause-plain : goal.returns-in_ok-to_triple-in-Ok-clause-plain
-returns-in_ok-to_triple-in-Ok-clause-plain c =
-    let read = c.in_ok-to_triple-in-Ok in
-    read_plain c.args.text.now (values_of read.field-0) (rw read.ensures.values c.in-Ok.ensures.ok)
+returns-in_ok-to_triple-in-Ok-clause-plain c = search (rules, read_plain)

@@ -1,5 +1,5 @@
 use Rattle.target_lexicon.proofs.RoundTrips.Printing.{string_of_pieces}
-use Rattle.target_lexicon.proofs.{ap, not, shows_operating_system, values_of_ref, ◌||◌, ◌∙◌, ◌≡◌}
+use Rattle.target_lexicon.proofs.{ap, not, shows_operating_system, values_of_ref, ◌||◌, ◌≡◌}
 use Rattle.target_lexicon.proofs.triple_ref.TripleRef.pieces.Goals as goal
 
 pub returns-clause-text : goal.returns-clause-text
@@ -12,6 +12,3 @@ returns-clause-text c =
     c.then_some-2.ensures (ap (λ b. c.args.shows_last_three || b) system) c.prefix.ensures c.version.ensures
     c.then_some-3.ensures (ap (λ b. c.args.shows_last_three || b) c.shows_environment.ensures) c.name-2.ensures
     c.then_some-4.ensures (ap (λ b. c.args.shows_last_three || b) c.shows_binary_format.ensures) c.name-3.ensures
-
-pub returns-in-Some-clause-vendor : goal.returns-in-Some-clause-vendor
-returns-in-Some-clause-vendor c = λ none. absurd (let same = c.in-Some.ensures ∙ none in cc)
