@@ -21,14 +21,13 @@ choices_pair : (Fss : List (List Field)) (P : Choice Fss → Choice Fss → Type
     → EachPair Fss P
     → (c d : Choice Fss) → tag (rowss Fss) (intoss Fss c) ≡ tag (rowss Fss) (intoss Fss d) → P c d
 choices_pair [] P itself pairs c d same = absurd c
-choices_pair (Fs ∷ Fss) P itself pairs (inl x) (inr y) same = absurd (omega arith)
-choices_pair (Fs ∷ Fss) P itself pairs (inr x) (inl y) same = absurd (omega arith)
 choices_pair ([] ∷ Fss) P itself pairs (inl x) (inl y) same = itself (inl x)
 choices_pair ((F ∷ Fs) ∷ Fss) P itself pairs (inl x) (inl y) same = pairs.0 x y
 choices_pair ([] ∷ Fss) P itself pairs (inr x) (inr y) same =
     search (rules, arith, (choices_pair Fss (λ c d. P (inr c) (inr d))))
 choices_pair ((F ∷ Fs) ∷ Fss) P itself pairs (inr x) (inr y) same =
     search (rules, arith, (choices_pair Fss (λ c d. P (inr c) (inr d))))
+choices_pair (Fs ∷ Fss) P itself pairs _ _ same = absurd (omega arith)
 
 pub variants_pair : (N : Record) (P : N.D → N.D → Type 0) → ((x : N.D) → P x x)
     → EachPair N.parts (λ c d. P (N.make c) (N.make d))
