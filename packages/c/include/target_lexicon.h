@@ -150,10 +150,13 @@ struct lexicon_part {
   size_t start, end;
 };
 
+/* In the place of a dialect, of what nobody has as a name: the words of the string say just this. */
+#define LEXICON_BY_WORDS 255
+
 /* What a string means to one of those who have it as a name: the canonical triple. Where the dialect has the name and
    no triple means the same, the status is LEXICON_NAME_WITHOUT_TRIPLE, and the triple is the unknown one. */
 struct lexicon_meaning {
-  uint32_t dialect; /* LEXICON_DIALECT_NONE of a string that parses, or is spelled like a triple */
+  uint32_t dialect; /* LEXICON_DIALECT_NONE of a string that parses, or is spelled like a triple; LEXICON_BY_WORDS */
   uint32_t status;
   struct lexicon_triple triple;
   /* At LEXICON_OK the level of the machine that the name says and the triple can't state, such as v3 of linux/amd64/v3:
@@ -318,9 +321,10 @@ enum lexicon_status lexicon_changes(const char *text, size_t text_size, size_t n
                                     char *out, size_t out_size, size_t *length);
 
 /* What a string means to those who have it as a name. If it parses, its triple comes first; then the dialects, in the
-   order of their numbers, where a name of several machines has a meaning for each; otherwise, last and without a
-   dialect, the string as one that is spelled like a triple. A single word that some dialect has has no meaning without
-   a dialect. The meanings are written into an array of so many elements, which may be null if that is 0, and in *count
+   order of their numbers, where a name of several machines has a meaning for each; otherwise, without a dialect, the
+   string as one that is spelled like a triple. A single word that some dialect has has no meaning without a dialect.
+   Last comes what the words of the string say, such as arm64-osx, unless somebody means a system of a known vendor or a
+   target of rustc, or says why no triple means the same. The meanings are written into an array of so many elements, which may be null if that is 0, and in *count
    is how many there are: with LEXICON_TOO_SMALL there are more, which with LEXICON_MAX_MEANINGS elements there never
    are. */
 LEXICON_CHECKED LEXICON_NONNULL(5)

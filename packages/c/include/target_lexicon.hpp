@@ -603,7 +603,8 @@ inline std::optional<Explanation> Triple::explain(std::string_view text, ParseEr
 
 // Whose name a string is, and the canonical triple that it means there.
 struct Meaning {
-  std::optional<Dialect> dialect;  // none of a string that is spelled like a triple
+  std::optional<Dialect> dialect;  // none of a string that is spelled like a triple, and of what words say
+  bool by_words = false;           // nobody has the name, and its words say just this
   std::optional<Triple> triple;
   std::string level;   // of the machine, which the triple can't state, such as v3 of linux/amd64/v3; empty if none
   std::string reason;  // why no triple means the same; empty if one does
@@ -617,7 +618,8 @@ inline std::vector<Meaning> Triple::meanings(std::string_view text) {
   for (std::size_t at = 0; at < count; at++) {
     const lexicon_meaning& meant = meanings[at];
     Meaning it;
-    if (meant.dialect != LEXICON_DIALECT_NONE) it.dialect = static_cast<Dialect>(meant.dialect);
+    it.by_words = meant.dialect == LEXICON_BY_WORDS;
+    if (!it.by_words && meant.dialect != LEXICON_DIALECT_NONE) it.dialect = static_cast<Dialect>(meant.dialect);
     if (meant.status == LEXICON_OK) it.triple = Triple(meant.triple);
     (meant.status == LEXICON_OK ? it.level : it.reason) = detail::text_of(meant.note);
     found.push_back(std::move(it));

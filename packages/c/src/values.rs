@@ -10,6 +10,9 @@ use target_names::{ChosenLibc, Dialect, NameOf};
 /// The number that says that a vendor is a custom one.
 pub(crate) const CUSTOM_VENDOR: u8 = 255;
 
+/// The number in the place of a dialect's of what only the words of a string say.
+const BY_WORDS: u32 = 255;
+
 /// The number of a vendor.
 pub(crate) fn vendor_number(vendor: VendorRef<'_>) -> u8 {
     match vendor {
@@ -35,8 +38,11 @@ pub(crate) fn dialect_at(number: u32) -> Option<Option<Dialect>> {
 
 /// The number of whose name it is. 0 is that of strings that are spelled like triples.
 pub(crate) fn name_of_number(of: NameOf) -> u32 {
-    let is_it = |it: &Dialect| of == NameOf::Dialect(*it);
-    (1..).zip(Dialect::ALL).find(|(_, it)| is_it(it)).map_or(0, |(number, _)| number)
+    match of {
+        NameOf::Dialect(dialect) => (1..).zip(Dialect::ALL).find(|it| *it.1 == dialect).map_or(0, |it| it.0),
+        NameOf::Words => BY_WORDS,
+        NameOf::Triple | NameOf::Spelling => 0,
+    }
 }
 
 /// The C library of this number. 0 is none.

@@ -351,8 +351,9 @@ static void try_parts(const struct asked *it, bool is_utf8) {
     EXPECT((turn ? lexicon_readers : lexicon_meanings)(it->text, it->size, meant, LEXICON_MAX_MEANINGS, &found) ==
         LEXICON_OK && is_filled(&meant[found], sizeof *meant));
     for (at = 0; at < found; at++) {
-      EXPECT(meant[at].dialect <= LAST_DIALECT && (meant[at].status == LEXICON_OK ||
-          (meant[at].status == LEXICON_NAME_WITHOUT_TRIPLE && meant[at].note != NULL)));
+      EXPECT(meant[at].dialect <= LAST_DIALECT || meant[at].dialect == LEXICON_BY_WORDS);
+      EXPECT(meant[at].status == LEXICON_OK ||
+          (meant[at].status == LEXICON_NAME_WITHOUT_TRIPLE && meant[at].note != NULL));
       try_result(it, &meant[at].triple, meant[at].dialect == LEXICON_DIALECT_NONE);
     }
   }

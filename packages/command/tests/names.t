@@ -17,7 +17,7 @@
   ! error: unknown name of go `linux/foo`
   !   linux/foo
   !   ^^^^^^^^^
-  !   note: it names a system, and no single machine known here
+  !   note: its words say linux, and no single machine known here
   ! error: unknown name of go `linux/amd46`
   !   linux/amd46
   !   ^^^^^^^^^^^ did you mean `linux/amd64`?
@@ -391,13 +391,13 @@ Names that no tool has, and what their words say:
   turbo-darwin-64
     is x86_64-apple-darwin, as node
   Linux-AMD65
-    is known in part: it names a system, and no single machine known here
+    is known in part: its words say linux, and no single machine known here
   linux/amr64
-    is known in part: it names a system, and no single machine known here
+    is known in part: its words say linux, and no single machine known here
   windows-11-arm
-    is known in part: it names a system, and no single machine known here
+    is known in part: its words say windows, and no single machine known here
   aarch64_cortex-a53
-    is known in part: it names a machine, and no system known here
+    is known in part: its words say aarch64, and no system known here
   ios-arm64_x86_64-simulator
     is known in part: it names several machines
   nios2-linux-gnu

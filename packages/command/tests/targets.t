@@ -36,7 +36,7 @@ Dashes and quotes of a word processor have their form in ASCII, and what words s
   $ for call in settle what; do target-lexicon $call '“x86_64‑linux–gnu”' | tail -n 1; done | uniq
   !   note: with the dashes and quotes of ASCII it is `x86_64-linux-gnu`
   $ for it in 'settle linux/amr64' 'check --from rust linux/amr64'; do target-lexicon $it | tail -n 1; done | uniq
-  !   note: it names a system, and no single machine known here
+  !   note: its words say linux, and no single machine known here
 
 What was answered stays if another file isn't there:
 

@@ -72,7 +72,7 @@ export const toolNames = (lexicon, text, { triple, level, tools }, libcs) =>
 /** What a name means: each triple at a level, bare metal last, with who means it; and the reasons of who mean none. */
 export function meaningsOf({ Triple, meanings }, text) {
   const found = new Map(), withoutTriple = {}, isBare = ({ triple }) => Number(triple.operatingSystem === "none");
-  for (const { dialect, triple, reason, level } of meanings(text)) {
+  for (const { dialect, triple, reason, level } of meanings(text).filter((it) => !it.byWords)) {
     if (triple === null) withoutTriple[dialect] = reason;
     else {
       const key = `${triple} ${level}`, tool = dialect ?? (Triple.tryParse(text) ? "triple" : "spelling");

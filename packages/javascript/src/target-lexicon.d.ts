@@ -202,9 +202,14 @@ export class Triple {
 export function translate(name: string, from: Dialect | null, to: Dialect, libc?: ChosenLibc | null,
   versions?: NamedVersions | null): string;
 
-/** What a string means to a tool that has it as a name; without a dialect, as a triple or as one that is spelled so. */
+/**
+ * What a string means to a tool that has it as a name; without a dialect, as a triple or as one that is spelled so, or
+ * by its words.
+ */
 export interface Meaning {
   readonly dialect: (typeof DIALECTS)[number] | null;
+  /** Whether nobody has the name, and its words say just this. */
+  readonly byWords: boolean;
   /** The canonical triple, or null if no triple means the same. */
   readonly triple: Triple | null;
   /** Why no triple means the same, or null. */
@@ -217,8 +222,9 @@ export interface Meaning {
 }
 
 /**
- * What a name of any tool means: as a triple, to each dialect that has it, and then as it is spelled. A string that
- * nobody knows has no meaning. `triple.names()` has the other tools' names.
+ * What a name of any tool means: as a triple, to each dialect that has it, and then as it is spelled; and last what its
+ * words say, if that isn't certain. A string that nobody knows has no meaning. `triple.names()` has the other tools'
+ * names.
  */
 export function meanings(text: string): Meaning[];
 

@@ -16,6 +16,7 @@ const FIRST = 0, SECOND = 20, LENGTH = 40, ANSWER = 44, ERROR = 48, FACTS = 64, 
 const SOURCE_TABLE = FACTS + ((FACTS_SIZE + 3) & ~3), TEXTS = SOURCE_TABLE + FIELDS.length * SOURCE_SIZE;
 const RANGE = ERROR + 4; // that of an error, or a part
 const REASON = ERROR + 12; // why a name isn't read or translated
+const BY_WORDS = 255; // in the place of a dialect
 const MAX_MEANINGS = 32, MEANING_SIZE = 32, MEANING_NOTE = 28; // of a struct after a dialect, a status and a triple
 const FINDING_SIZE = 32; // where a word and its part begin and end, a status, the names for the part and how much stays
 const PAGE = 65536;
@@ -549,10 +550,10 @@ function meaningsBy(call, text) {
   it.hold(size + MAX_MEANINGS * MEANING_SIZE + ROOM);
   expectOk(it.call(call, start, size, it.base + out, MAX_MEANINGS, it.base + LENGTH));
   return Array.from({ length: it.number(LENGTH) }, (_, at) => {
-    const place = out + at * MEANING_SIZE, dialect = DIALECTS[it.number(place) - 1] ?? null,
-      note = it.string(it.number(place + MEANING_NOTE));
-    return it.number(place + 4) === OK ? { dialect, triple: it.tripleAt(place + 8), reason: null, level: note }
-      : { dialect, triple: null, reason: note, level: null };
+    const place = out + at * MEANING_SIZE, whose = it.number(place), note = it.string(it.number(place + MEANING_NOTE)),
+      of = { dialect: DIALECTS[whose - 1] ?? null, byWords: whose === BY_WORDS };
+    return it.number(place + 4) === OK ? { ...of, triple: it.tripleAt(place + 8), reason: null, level: note }
+      : { ...of, triple: null, reason: note, level: null };
   });
 }
 

@@ -69,8 +69,13 @@ export function differences(lexicon, answers) {
     for (const { note, known, file, line, target, ...wanted } of list) {
       if (word === "translate" && wanted.error) delete wanted.error; // the command's own words
       const answer = CALLS[word](lexicon, target, ...more), { meanings } = wanted;
-      // What only the words of a name say, no tool means by it.
-      const named = meanings?.filter((it) => it.tools[0] !== "words");
+      // The page has what words say as a note, and not among the meanings.
+      const isByWords = (it) => it.tools[0] === "words", named = meanings?.filter((it) => !isByWords(it));
+      if (word === "what" && more.length === 0) {
+        const [ours, theirs] = [lexicon.meanings(target).filter((it) => it.byWords), meanings?.filter(isByWords) ?? []]
+          .map((list) => list.map((it) => `${it.triple ?? it.canonical} ${it.level}`).join());
+        if (ours !== theirs) found.push(`the words of ${JSON.stringify(target)} say ${ours}, and not ${theirs}`);
+      }
       if (named) wanted.meanings = named.map(({ note: _, ...it }) => it);
       for (const [key, value] of Object.entries(wanted)) {
         const [ours, theirs] = [answer[key], value].map((it) => JSON.stringify(it));

@@ -219,7 +219,7 @@ def refuses_and_suggests(page):
     same(page.run(FOCUSED), "x86_64-linux-gnu")
     typed(page, "linux/amr64")
     same(page.run(CELLS)[0][1], "Unrecognized architecture: linux/amr64"
-         "Note: it names a system, and no single machine known here")
+         "Note: its words say linux, and no single machine known here")
 
 
 def mistakes_come_first(page):

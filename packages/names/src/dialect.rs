@@ -208,8 +208,9 @@ impl Dialect {
     /// The name of a triple in this dialect: that of its [shape](Dialect::shape). `None` if it has none, and if its vendor
     /// says that the target is another one: a system that no triple has, such as `wasip3`, or a variant such as `uwp`.
     /// There is none either if the machine of the triple can more than those for which the tool builds, so that the name would mean machines that
-    /// don't run the program, or can less: of Debian an Armv7 has no `armel`, which is Armv5, and an Armv6 no `armhf`. In GNU, whose compilers build for all levels of a machine,
-    /// a triple that has no name of a cross compiler is its own name where config.sub takes it. Nothing is allocated.
+    /// don't run the program, or can less: of Debian an Armv7 has no `armel`, which is Armv5, and an Armv6 no `armhf`.
+    /// In GNU, whose compilers build for all levels of a machine, but for none older than the i686 of their name, a
+    /// triple that has no name of a cross compiler is its own name where config.sub takes it. Nothing is allocated.
     ///
     /// ```
     /// use target_lexicon::TripleRef;
@@ -260,7 +261,7 @@ impl Dialect {
         let machine = (triple.architecture, level);
         let is_x86 = matches!(triple.architecture, Architecture::X86_32(_));
         let has_levels = matches!(rules.machine, MachineRule::I686 | MachineRule::Rustc | MachineRule::Alpine);
-        if is_x86 && has_levels && !level.is_empty() {
+        if is_x86 && (has_levels && !level.is_empty() || rules.spelled && level == "i486") {
             shape.architecture = triple.architecture;
         }
         let is_on_system = triple.operating_system != OperatingSystem::None_;
@@ -282,8 +283,9 @@ impl Dialect {
             Some(row) => Some(Name::filled(row.0, numbers)),
             None if rules.spelled && version.is_none() => {
                 let text = core::str::from_utf8(text).ok()?;
-                let is_name = text.len() <= Name::MOST && read_as_gnu(text) == Ok(shape);
-                is_name.then(|| Name::filled(text, None))
+                let (machine, rest) = text.split_at(text.find('-')?);
+                let name = Name::of(&[if level == "i486" { level } else { machine }, rest]);
+                name.filter(|_| read_as_gnu(text) == Ok(shape))
             }
             None => None,
         }

@@ -77,8 +77,8 @@ impl<T: Copy + PartialEq> Said<T> {
 ///     assert_eq!((sense.triple.to_string(), sense.level), (triple.into(), level));
 /// }
 /// for (text, sentence) in [
-///     ("ubuntu-22.04", "it names a system, and no single machine known here"),
-///     ("windows-11-arm", "it names a system, and no single machine known here"),
+///     ("ubuntu-22.04", "its words say linux, gnu, and no single machine known here"),
+///     ("windows-11-arm", "its words say windows, and no single machine known here"),
 ///     ("macos-arm64_x86_64", "it names several machines"),
 ///     ("aarch64-linux-mlibc", "no triple says all that its words say: aarch64, linux, another C library or ABI"),
 ///     ("linux-x64-foo", "its words say x86_64, linux; here nobody knows `foo`"),
@@ -94,6 +94,7 @@ pub struct Evidence<'a> {
     machine: Said<Architecture>,
     /// It says `arm` or `armv8`, which may have 32 bits or 64.
     is_any_arm: bool,
+    is_v8: bool,
     /// It has a word for a machine that no triple has.
     pub(crate) is_other_machine: bool,
     level: Said<&'static str>,
@@ -193,6 +194,8 @@ impl<'a> Evidence<'a> {
             let is_part = is_part || before == Some(Kind::Gnu) && text != "2";
             // What a platform has after its machine is a level.
             let is_level = before == Some(Kind::Machine) && joint == Some(b'/') && (text.starts_with('v') || !goes_on);
+            // After a system it may be that of a program.
+            let is_level = is_level || self.level_at(word.start).is_some();
             let is_version = is_version(text) && !is_part && !is_level;
             if has_begun && !is_version && self.unknown.is_none() {
                 self.unknown = Some(text);
@@ -256,10 +259,11 @@ impl<'a> Evidence<'a> {
 
     /// The level of a machine that begins here in the text, and its end: `v3` of `amd64_v3`, and no version such as `v3.2.1`.
     fn level_at(&self, start: usize) -> Option<(&'static str, usize)> {
-        let (platform, profile) = match self.machine {
-            Said::One(Architecture::X86_64) => ("linux/amd64/", ""),
+        let (platform, profile, own): (_, _, &[_]) = match self.machine {
+            Said::One(Architecture::X86_64) => ("linux/amd64/", "", &[]),
             // Armv8.2-A.
-            Said::One(Architecture::Aarch64(_)) => ("linux/arm64/", "a"),
+            Said::One(Architecture::Aarch64(_)) => ("linux/arm64/", "a", &[]),
+            Said::One(Architecture::Arm(_)) => ("linux/arm/", "a", &["v6", "v7", "v8"]),
             _ => return None,
         };
         let rest = &self.text[start..];
@@ -270,8 +274,10 @@ impl<'a> Evidence<'a> {
                 || after.trim_start_matches('.').starts_with(|it: char| it.is_ascii_digit());
             (!goes_on).then_some(after)
         };
-        let mut levels = Dialect::Oci.table().levels.iter();
-        levels.find_map(|it| Some((it.1, self.text.len() - after(it.0.strip_prefix(platform)?)?.len())))
+        let of_platform = |it: &(&'static str, &'static str)| Some((it.0.strip_prefix(platform)?, it.1));
+        let levels = Dialect::Oci.table().levels.iter().filter_map(of_platform);
+        let mut levels = levels.chain(own.iter().map(|it| (*it, *it)));
+        levels.find_map(|it| Some((it.1, self.text.len() - after(it.0)?.len())))
     }
 
     pub(crate) fn has_machine(&self) -> bool {
@@ -287,6 +293,7 @@ impl<'a> Evidence<'a> {
             "nothing" | "elf" | "kit" | "version" => {}
             "several" => self.machine = Said::Contradicted,
             "arm32|64" => self.is_any_arm = true,
+            "v8" => self.is_v8 = true,
             "other-machine" => self.is_other_machine = true,
             "32" => self.width.add(PointerWidth::U32),
             "64" => self.width.add(PointerWidth::U64),
@@ -299,6 +306,8 @@ impl<'a> Evidence<'a> {
                 self.level.add(what)
             }
             "other-abi" => self.library.add(OTHER),
+            // That of MinGW with the tools of LLVM is one of GNU's.
+            "gnullvm" if self.library == Said::One("gnu") => self.library = Said::One(what),
             "gnu" | "musl" | "uclibc" | "msvc" | "gnullvm" | "newlib" => self.library.add(what),
             "android" | "ohos" | "macabi" | "sim" | "n32" | "n64" | "spe" => self.form.add(what),
             "ibm" | "sun" | "nvidia" | "uwp" => self.vendor.add(what),
@@ -310,11 +319,12 @@ impl<'a> Evidence<'a> {
         }
     }
 
-    /// Of two levels of a machine both are said: the machine is at least of the higher.
+    /// Of a word without a level and one with it, or two of the same level, both are said.
     fn add_machine(&mut self, machine: Architecture) {
+        let is_or_has_more = |it, other| is_at_most((it, ""), (other, "")) && (has_no_level(it) || is_at_most((other, ""), (it, "")));
         self.machine = match self.machine {
-            Said::One(it) if is_at_most((machine, ""), (it, "")) => Said::One(it),
-            Said::One(it) if !is_at_most((it, ""), (machine, "")) => Said::Contradicted,
+            Said::One(it) if is_or_has_more(machine, it) => Said::One(it),
+            Said::One(it) if !is_or_has_more(it, machine) => Said::Contradicted,
             Said::Contradicted => Said::Contradicted,
             _ => Said::One(machine),
         };
@@ -352,7 +362,7 @@ impl<'a> Evidence<'a> {
 
     /// The least machine that the words say. A word such as `arm` says none, which may have 32 bits or 64, unless others say which.
     pub(crate) fn machine(&self) -> Said<Architecture> {
-        let arm = Architecture::Arm(ArmArchitecture::Arm);
+        let arm = Architecture::Arm(if self.is_v8 { ArmArchitecture::Armv8 } else { ArmArchitecture::Arm });
         let may_be_64 = self.width.allows(PointerWidth::U64);
         let has_floats = self.floats != Said::Unsaid || self.level == Said::One("neon");
         let is_arm = |it| matches!(it, Architecture::Arm(_) | Architecture::Aarch64(_));
@@ -362,13 +372,14 @@ impl<'a> Evidence<'a> {
             // In `aarch64-arm-none-eabi` it is another one.
             Said::One(Architecture::Aarch64(_)) if self.is_any_arm && has_floats => Said::Contradicted,
             Said::Unsaid if self.is_any_arm && (has_floats || !may_be_64) => Said::One(arm),
-            Said::One(it) if self.is_of_alpine && it == arm => match self.floats {
-                Said::One(FloatAbi::Hard) => Said::One(Architecture::Arm(ArmArchitecture::Armv6)),
-                Said::One(FloatAbi::Soft) => Said::One(Architecture::Arm(ArmArchitecture::Armv5te)),
+            Said::One(it @ Architecture::Arm(ArmArchitecture::Arm)) => match self.floats {
+                _ if self.is_v8 => Said::One(arm),
+                Said::One(FloatAbi::Hard) if self.is_of_alpine => Said::One(Architecture::Arm(ArmArchitecture::Armv6)),
+                Said::One(FloatAbi::Soft) if self.is_of_alpine => Said::One(Architecture::Arm(ArmArchitecture::Armv5te)),
                 _ => Said::One(it),
             },
             // Alpine's `x86` is the i586.
-            Said::One(Architecture::X86_32(_)) if self.is_of_alpine => {
+            Said::One(Architecture::X86_32(_)) if self.is_of_alpine && self.text.contains("x86") => {
                 Said::One(Architecture::X86_32(X86_32Architecture::I586))
             }
             said => said,
@@ -559,18 +570,17 @@ impl fmt::Display for Evidence<'_> {
             Some(Sense { triple, level }) => return write!(f, "its words name {triple} of the level {level}"),
             None => {}
         }
-        let is_other = self.system == Said::One(OTHER);
         let begin = match (self.machine(), self.system) {
             (Said::Contradicted, _) => return f.write_str("it names several machines"),
             _ if self.is_other_machine => return f.write_str("it names a machine that no triple has"),
             (Said::Unsaid, Said::Unsaid) if !self.is_any_arm => return f.write_str("it names nothing known here"),
             (Said::Unsaid, Said::Unsaid) => return f.write_str("it names an Arm of 32 or of 64 bits, and no system"),
-            (Said::Unsaid, _) => return f.write_str("it names a system, and no single machine known here"),
+            (Said::Unsaid, Said::Contradicted | Said::One(OTHER | "none")) => {
+                return f.write_str("it names a system, and no single machine known here")
+            }
             (_, Said::Contradicted) => return f.write_str("it names several systems"),
-            _ if is_other => return f.write_str("it names a machine, and a system that no triple has"),
-            (_, Said::Unsaid) if self.level != Said::Unsaid => "its words say",
-            (_, Said::Unsaid) if self.unknown.is_none() => return f.write_str("it names a machine, and no system"),
-            (_, Said::Unsaid) => return f.write_str("it names a machine, and no system known here"),
+            (_, Said::One(OTHER)) => return f.write_str("it names a machine, and a system that no triple has"),
+            (Said::Unsaid, _) | (_, Said::Unsaid) => "its words say",
             _ if self.unknown.is_some() => "its words say",
             _ if self.has_library_apart => "its words may be of two targets:",
             _ => "no triple says all that its words say:",
@@ -606,10 +616,12 @@ impl fmt::Display for Evidence<'_> {
                 Said::Contradicted => say(&"several C libraries or ABIs")?,
             }
         }
-        match self.unknown {
-            Some(word) => write!(f, "; here nobody knows `{}`", visible(word).shortened()),
-            None if self.system == Said::Unsaid => f.write_str(", and no system"),
-            None => Ok(()),
+        match (self.machine(), self.unknown) {
+            (Said::Unsaid, _) => f.write_str(", and no single machine known here"),
+            (_, None) if self.system == Said::Unsaid => f.write_str(", and no system"),
+            (_, Some(_)) if self.system == Said::Unsaid => f.write_str(", and no system known here"),
+            (_, Some(word)) => write!(f, "; here nobody knows `{}`", visible(word).shortened()),
+            (_, None) => Ok(()),
         }
     }
 }

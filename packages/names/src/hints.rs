@@ -6,6 +6,7 @@ use crate::buffer::Buffer;
 use crate::dialect::Row;
 use crate::evidence::{has_other_word, only_machine, says_nothing};
 use crate::levels::{is_at_most, level_of};
+use crate::near::ends_with_digit;
 use crate::shape::unversioned;
 use crate::suggestions::{
     difference, edits_between, fit_alone, is_near_other, machine_of, meant, vendor_suggestion, visible, Form, Machine,
@@ -13,7 +14,7 @@ use crate::suggestions::{
 };
 use crate::table::SYSTEMS;
 use crate::text::is_whole;
-use crate::{changes, read, Dialect, Evidence, FloatAbi, NameError, Said};
+use crate::{changes, level_spelled, read, Dialect, Evidence, FloatAbi, NameError, Said};
 use core::cell::Cell;
 use core::fmt::{self, Write as _};
 use core::ops::Range;
@@ -200,14 +201,17 @@ struct Hints<'a> {
 }
 
 impl<'a> Hints<'a> {
-    /// A longer name gets no hint, so that none takes long, nor does one with a word that no triple has a meaning of.
+    /// A longer name gets no hint, so that none takes long.
     fn of(name: &'a str) -> Option<Self> {
-        let may_be_meant = name.len() <= LONGEST_PATH && !has_other_word(name);
-        may_be_meant.then(|| Hints { name, evidence: Evidence::of(name), near: Cell::new(None) })
+        (name.len() <= LONGEST_PATH).then(|| Hints { name, evidence: Evidence::of(name), near: Cell::new(None) })
     }
 
-    /// The answer of [`Dialect::suggestion`].
+    /// The answer of [`Dialect::suggestion`]: a word that no triple has a meaning of stays.
     fn name_of(&self, dialect: Dialect) -> Option<&'static str> {
+        self.found(dialect).filter(|it| keeps_others(self.name, it))
+    }
+
+    fn found(&self, dialect: Dialect) -> Option<&'static str> {
         let (name, evidence) = (self.name, &self.evidence);
         if let Some(known) = dialect.name_in_other_letters(name) {
             return Some(known);
@@ -221,7 +225,8 @@ impl<'a> Hints<'a> {
             let sense = dialect.sense(known).ok()?;
             return evidence.allows(&sense).then_some(known);
         }
-        let spelled = read(name).ok().filter(|it| !it.vendor.is_custom() && !has_number_of_abi(name));
+        let is_whole = || !has_number_of_abi(name) && level_spelled(name).is_empty();
+        let spelled = read(name).ok().filter(|it| !it.vendor.is_custom() && is_whole());
         // What says nothing may be a misspelled ABI: `aarch64-apple-ios-iso`.
         let is_vendor = |it: &str| VendorRef::from_str(it).map_or(false, |it| !it.is_custom());
         let is_left_out = |it: &str| says_nothing(it) && !is_vendor(it);
@@ -260,7 +265,7 @@ impl<'a> Hints<'a> {
                 let sense = dialect.sense(row.0).ok();
                 sense.map(|it| (level_of((it.triple.architecture, it.level)), it.triple.operating_system))
             },
-            |row| allows(row) && keeps_systems(name, row.0) && keeps_numbers(row.0) && keeps_words(name, row.0),
+            |row| allows(row) && keeps_numbers(row.0) && keeps_words(name, row.0),
         )
     }
 
@@ -308,10 +313,11 @@ fn target_of(triple: &TripleRef<'_>) -> (Machine, OperatingSystem) {
     (machine_of(triple.architecture), system)
 }
 
-/// How many signs of a name are between two numbers.
+/// How many signs of a name are between two numbers, of which the second may be a level's: `amd6/v4`.
 fn numbers_apart(name: &str) -> usize {
-    let is_between = |it: &&[u8]| it[0].is_ascii_digit() && !it[1].is_ascii_alphanumeric() && it[2].is_ascii_digit();
-    name.as_bytes().windows(3).filter(is_between).count()
+    let words = name.split(|it: char| !it.is_ascii_alphanumeric());
+    let begins = |it: &str| it.strip_prefix('v').unwrap_or(it).starts_with(|it: char| it.is_ascii_digit());
+    words.clone().zip(words.skip(1)).filter(|it| ends_with_digit(it.0) && begins(it.1)).count()
 }
 
 /// The signs between words.
@@ -456,11 +462,11 @@ fn keeps_words(name: &str, other: &str) -> bool {
         || words(name).zip(words(other)).all(is_near)
 }
 
-/// Whether each word of a name for a system that no triple has, such as `lynx`, is one of another name too.
-fn keeps_systems(name: &str, other: &str) -> bool {
+/// Whether each word of a name that no triple has a meaning of, such as `lynx`, is one of another name too.
+fn keeps_others(name: &str, other: &str) -> bool {
     let words = |text| str::split(text, |it: char| !it.is_ascii_alphanumeric());
-    let is_system = |word: &&str| SYSTEMS.iter().any(|it| it.0 == *word);
-    words(name).filter(is_system).all(|word| words(other).any(|it| it == word))
+    let is_other = |word: &&str| has_other_word(word) || SYSTEMS.iter().any(|it| it.0 == *word);
+    words(name).filter(is_other).all(|word| words(other).any(|it| it.eq_ignore_ascii_case(word)))
 }
 
 /// The most bytes of a path in which a name is looked for, and of a name that gets a hint.

@@ -77,6 +77,10 @@ pub(crate) fn level_of((architecture, word): Machine<'_>) -> (Architecture, u32)
         (_, "i486") => first(1),
         (_, "pentium4") => first(3),
         (_, "athlon") => 1 << 3,
+        (_, "geode") => 1 << 4,
+        (Sparc, "v9") => first(1),
+        // Zen has the third level, and more.
+        (X86_64, "znver1") => first(3) | 1 << 8,
         (X86_64, _) => first(number(major)),
         // Armv9 has what Armv8.5 has.
         (Aarch64(_), _) if major == "9" => first(5 + number(minor)) | 1 << 16,
@@ -84,6 +88,7 @@ pub(crate) fn level_of((architecture, word): Machine<'_>) -> (Architecture, u32)
         (Arm(_), "v5") => arm_level(ArmArchitecture::Armv5te),
         (Arm(_), "v6" | "armv6") => arm_level(ArmArchitecture::Armv6),
         (Arm(_), "v7") => arm_level(ArmArchitecture::Armv7),
+        (Arm(_), "v8") => arm_level(ArmArchitecture::Armv8),
         (Arm(_), "neon") => NEON,
         (Riscv32(_) | Riscv64(_), "gc" | "rva20u64") => first(6),
         (Riscv64(_), "rva22u64") => first(7),
@@ -164,15 +169,15 @@ mod tests {
     armv7 thumbv7neon armv7k, armv6 armv6t2 armv7, armv7 thumbv7neon armv8, armv7 armv7@neon armv8, \
     thumbv6m thumbv7m thumbv7em, thumbv6m thumbv8m.base thumbv8m.main, thumbv7m thumbv8m.main, armv7r armv8r, \
     armeb armebv7r, thumbeb armebv7r, arm armv4t, x86_64 x86_64@v2 x86_64@v3 x86_64@v4, \
-    x86_64@v2 x86_64h x86_64@v4, i386 i386@i486 i586 i586@pentium4, aarch64 aarch64@v8.1 aarch64@v8.5 aarch64@v9 aarch64@v9.2, \
+    x86_64@v2 x86_64h x86_64@v4, x86_64@v3 x86_64@znver1, i386 i386@i486 i586 i586@pentium4, i586 i586@geode, sparc sparc@v9, aarch64 aarch64@v8.1 aarch64@v8.5 aarch64@v9 aarch64@v9.2, \
     powerpc64le powerpc64le@power9 powerpc64le@power10, powerpc64 powerpc64@power7 powerpc64@power8, \
     riscv64 riscv64imac riscv64gc riscv64@rva22u64 riscv64@rva23u64, \
     riscv32i riscv32im riscv32ima riscv32imac riscv32imafc riscv32gc";
 
     /// Between two commas no machine is at most another one.
     const APART: &str = "\
-        thumbv7m armv7 armv7r, i686@pentium4 i686@athlon, armv6k armv6t2, armebv7r armv7r, mips mipsel, x86_64 i686, aarch64@v8.6 aarch64@v9, \
-        thumbv8m.base thumbv7em, thumbv7em thumbv8m.main, armv7ve thumbv7neon, powerpc64 powerpc64le riscv32";
+        thumbv7m armv7 armv7r, i686@pentium4 i686@athlon i586@geode, armv6k armv6t2, armebv7r armv7r, mips mipsel, x86_64 i686, aarch64@v8.6 aarch64@v9, \
+        x86_64@v4 x86_64@znver1, thumbv8m.base thumbv7em, thumbv7em thumbv8m.main, armv7ve thumbv7neon, powerpc64 powerpc64le riscv32";
 
     /// Between two commas each machine is at most each other one. No machine has a higher level than some number.
     const SAME: &str = "\

@@ -23,6 +23,7 @@ impl Dialect {
     /// | rustc | the version of glibc that cargo-zigbuild takes: `x86_64-unknown-linux-gnu.2.17` |
     /// | Zig | a range of versions of the system: `x86_64-linux.5.10...6.1-gnu.2.31`; what follows `native` |
     /// | Go, Node, rustc | the file name of an archive: `helm-v3.14.0-linux-amd64.tar.gz` |
+    /// | .NET | that of one of its own: `dotnet-sdk-8.0.100-linux-musl-arm.tar.gz` |
     /// | Debian, RPM, pacman | the file name of a package; in Debian `uclibc-` instead of `musl-`, and `libc6:i386` |
     ///
     /// # Errors
@@ -82,7 +83,10 @@ impl Dialect {
             Dialect::Debian => text.strip_suffix(".deb")?,
             Dialect::Rpm => text.strip_suffix(".rpm")?,
             Dialect::Pacman => text.split_once(".pkg.tar")?.0,
-            Dialect::Go | Dialect::Node | Dialect::Rust => ARCHIVES.iter().find_map(|it| text.strip_suffix(it))?,
+            Dialect::Dotnet if !text.starts_with("dotnet-") && !text.starts_with("aspnetcore-") => return None,
+            Dialect::Dotnet | Dialect::Go | Dialect::Node | Dialect::Rust => {
+                ARCHIVES.iter().find_map(|it| text.strip_suffix(it))?
+            }
             _ => return None,
         };
         let (start, found) = self.read_end(file, ['-', '_', '.'])?;
@@ -231,8 +235,9 @@ impl Dialect {
         is_one.then_some(first)
     }
 
-    /// The words of `uname -s` and `uname -m`, with one space between them, and any version of Windows as Windows 10. Of more words the
-    /// machine is the last one that isn't a system's or `unknown`: where the last one is `illumos` or `Android`, it is the system.
+    /// The words of `uname -s` and `uname -m`, with one space between them, and any version of Windows as Windows 10. Of
+    /// more words the machine is the first of the last ones that are machines, of which `uname -a` prints three: where
+    /// the last one is `illumos` or `Android`, it is the system.
     fn read_words(self, text: &str) -> Option<Found> {
         let is_space = |it: char| it.is_whitespace() || it == ',';
         let text = text.trim_matches(is_space);
@@ -243,8 +248,9 @@ impl Dialect {
             None | Some(Err(NameError::Unknown)) => {
                 let last = words().next_back();
                 let system = last.filter(|it| *it == "illumos").unwrap_or(system);
-                let machine = words().rev().find(|it| !AFTER_MACHINES.contains(it));
-                let found = self.read_system_and_machine(system, machine.into_iter())?;
+                let read = |it: &str| self.read_system_and_machine(system, core::iter::once(it));
+                let machines = words().rev().skip_while(|it| AFTER_MACHINES.contains(it)).map(read);
+                let found = machines.take_while(|it| *it != Some(Err(NameError::Unknown))).last()??;
                 Some(found.map(|it| match last {
                     Some("Android") => Sense { triple: on_android(it.triple), ..it },
                     _ => it,

@@ -13,10 +13,12 @@ pub enum NameOf {
     Triple,
     /// A string that doesn't parse, and is spelled like a triple, as [`read`] reads it.
     Spelling,
+    /// Nobody's: the words of the string say just this, as [`Evidence`] takes them.
+    Words,
 }
 
 impl NameOf {
-    /// The name of the dialect, or `triple` or `spelling`.
+    /// The name of the dialect, or `triple`, `spelling` or `words`.
     ///
     /// ```
     /// use target_names::NameOf;
@@ -29,6 +31,7 @@ impl NameOf {
             NameOf::Dialect(dialect) => dialect.name(),
             NameOf::Triple => "triple",
             NameOf::Spelling => "spelling",
+            NameOf::Words => "words",
         }
     }
 }
@@ -43,9 +46,10 @@ pub struct Meaning<'a> {
 }
 
 /// What a name means: first as a triple, if it parses as one; then to each dialect that has it, in the order of [`Dialect::ALL`], with what
-/// files and commands have [around it](Dialect::read_loosely); and last as what is spelled like a triple. A name such as `universal2` has a
-/// meaning for each of its machines. A single word isn't taken for a triple if some tool has the name. Nobody means anything by a name of
-/// which there is no meaning: [`Evidence`] says what its words may mean. Nothing is allocated.
+/// files and commands have [around it](Dialect::read_loosely); then as what is spelled like a triple; and last what its words say, if nobody
+/// means a system of a known vendor or a target of rustc by it, or has the name for no triple. A name such as `universal2` has a
+/// meaning for each of its machines. A single word isn't taken for a triple if some tool has the name. Of a name without a
+/// meaning [`Evidence`] says what its words may mean. Nothing is allocated.
 ///
 /// ```
 /// use target_names::{meanings, Dialect, NameOf};
@@ -57,20 +61,38 @@ pub struct Meaning<'a> {
 /// let plan_9 = meanings("plan9/amd64").next().unwrap();
 /// assert_eq!((plan_9.of, plan_9.sense), (NameOf::Dialect(Dialect::Go), Err("Plan 9 is no known name")));
 /// assert_eq!(meanings("x86_64-unknown-none").next().unwrap().of, NameOf::Triple);
+/// assert_eq!(meanings("arm64-osx").map(|it| it.of).last(), Some(NameOf::Words));
 /// assert_eq!(meanings("foo/bar").next(), None);
 /// ```
 pub fn meanings(text: &str) -> impl Iterator<Item = Meaning<'_>> + Clone {
-    // A file of pacman's may be MSYS2's too, if that has the machine, of which it has no levels.
-    let has_system = move || Evidence::of(text).system != Said::Unsaid;
-    let may_be_msys2 = move || ["x86_64", "i686", "aarch64"].iter().any(|it| text.contains(it));
-    let is_meant = move |dialect: &&Dialect| {
-        let is_file = text.contains(".pkg.tar");
-        **dialect != Dialect::Pacman
-            || !is_file
-            || has_system()
-            || !may_be_msys2()
-            || dialect.read_loosely(text).map_or(false, |it| !it.level.is_empty())
-    };
+    let of_tools = meanings_of_tools(text);
+    let by_words = by_words(text, of_tools.clone());
+    of_tools.chain(by_words)
+}
+
+/// What the words of a name say: if they name a system, or nobody has the name, and it isn't certain what tools mean.
+fn by_words<'a>(text: &'a str, of_tools: impl Iterator<Item = Meaning<'a>>) -> Option<Meaning<'a>> {
+    let has_system =
+        |it: &TripleRef<'_>| !matches!(it.operating_system, OperatingSystem::None_ | OperatingSystem::Unknown);
+    let (mut is_name, mut has_meaning, mut has_reason) = (false, false, false);
+    for Meaning { of, sense } in of_tools {
+        is_name = true;
+        match sense {
+            Ok(_) if of == NameOf::Dialect(Dialect::Rust) => return None,
+            Ok(it) if !it.triple.vendor.is_custom() && has_system(&it.triple) => return None,
+            Ok(_) => has_meaning = true,
+            // Why the spelling of GNU has no triple says little: it has no system `osx`.
+            Err(_) => has_reason |= of != NameOf::Dialect(Dialect::Gnu),
+        }
+    }
+    let is_known = has_reason && !has_meaning;
+    let sense = Evidence::of(text).sense().filter(|it| !is_known && (!is_name || has_system(&it.triple)))?;
+    Some(Meaning { of: NameOf::Words, sense: Ok(sense) })
+}
+
+/// What a name means but for what its words say.
+fn meanings_of_tools(text: &str) -> impl Iterator<Item = Meaning<'_>> + Clone {
+    let is_meant = move |dialect: &&Dialect| **dialect != Dialect::Pacman || !may_be_of_msys2(text);
     let to_dialect = move |dialect: &Dialect| {
         let why = match dialect.read_loosely(text) {
             Err(NameError::WithoutTriple(why)) if !OF_CONFIG_SUB.contains(&why) => Some(Err(why)),
@@ -93,7 +115,19 @@ pub fn meanings(text: &str) -> impl Iterator<Item = Meaning<'_>> + Clone {
 
 /// The first meaning of a name that is asked for: one function for all who ask, since the iterator's are large.
 pub(crate) fn meaning_with<'a>(text: &'a str, is_it: &mut dyn FnMut(&Meaning<'a>) -> bool) -> Option<Meaning<'a>> {
-    meanings(text).find(|it| is_it(it))
+    meanings_of_tools(text).find(|it| is_it(it))
+}
+
+/// Whether a file of pacman's may be MSYS2's: of a machine that MSYS2 has, without a system, or of none and for a machine's Windows.
+fn may_be_of_msys2(text: &str) -> bool {
+    let Some((file, _)) = text.split_once(".pkg.tar") else {
+        return false;
+    };
+    let evidence = Evidence::of(text);
+    match evidence.system {
+        Said::Unsaid => ["-x86_64", "-i686"].iter().any(|it| file.ends_with(it)),
+        system => system == Said::One("windows") && evidence.has_machine() && file.ends_with("-any"),
+    }
 }
 
 /// By whom a string is read that is no triple, or one with a custom vendor: by [`read`], if it gives a known vendor and

@@ -14,7 +14,7 @@ impl MultiarchTuple {
     /// The answer of [`TargetInfo::multiarch_tuple`].
     pub(crate) fn of(triple: &TripleRef<'_>) -> Option<MultiarchTuple> {
         Dialect::Debian.write(triple)?;
-        let prefix = Dialect::Gnu.write(triple)?;
+        let prefix = Dialect::Gnu.write(Dialect::Debian.shape(triple))?;
         Some(MultiarchTuple { prefix })
     }
 }

@@ -9,7 +9,7 @@ pub struct Name(Buffer<{ Name::MOST }>);
 
 impl Name {
     /// The most bytes of a name.
-    pub(super) const MOST: usize = 36;
+    const MOST: usize = 36;
 
     /// The name. It has at most 36 bytes.
     ///
@@ -25,10 +25,10 @@ impl Name {
         self.0.as_str()
     }
 
-    /// The name, if it isn't too long.
-    pub(super) fn of(name: &str) -> Option<Name> {
+    /// The name of these parts, if it isn't too long.
+    pub(super) fn of(parts: &[&str]) -> Option<Name> {
         let mut found = Buffer::new();
-        found.write_str(name).ok()?;
+        parts.iter().try_for_each(|part| found.write_str(part)).ok()?;
         Some(Name(found))
     }
 

@@ -27,7 +27,7 @@ impl<'a> Note<'a> {
     /// let note = |text, dialect| Note::of(text, dialect).map(|it| it.to_string());
     /// let ascii = "with the dashes and quotes of ASCII it is `x86_64-linux-gnu`";
     /// assert_eq!(note("\u{201c}x86_64\u{2011}linux\u{2013}gnu\u{201d}", None).unwrap(), ascii);
-    /// assert_eq!(note("linux/amr64", None).unwrap(), "it names a system, and no single machine known here");
+    /// assert_eq!(note("linux/amr64", None).unwrap(), "its words say linux, and no single machine known here");
     /// assert_eq!(note("linux/arm", Some(Dialect::Debian)).unwrap(), "it is a name of go and oci");
     /// assert_eq!(note("linux/arm", None), None); // `readers` says who reads it
     /// ```

@@ -72,7 +72,11 @@ impl Rules {
         use OperatingSystem::{MacOSX, IOS};
         let (machine, system) = (self.machine, triple.operating_system);
         let environment = self.abi.environment(system, triple.environment);
-        let architecture = machine.architecture(system, environment, triple.architecture);
+        let architecture = match triple.architecture {
+            // A compiler for an i686 writes what an i586 doesn't run.
+            i586 @ Architecture::X86_32(X86_32Architecture::I586) if self.spelled => i586,
+            other => machine.architecture(system, environment, other),
+        };
         TripleRef {
             architecture,
             vendor: VendorRef::Known(usual_vendor(architecture, system)),

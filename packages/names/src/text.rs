@@ -543,7 +543,7 @@ pub(crate) fn is_known(word: &str) -> bool {
     let has_known_vendor = |it: Sense<'_>| !it.triple.vendor.is_custom();
     let mut is_known = |it: &Meaning<'_>| match it.of {
         NameOf::Dialect(dialect) => dialect != Dialect::Gnu,
-        NameOf::Triple | NameOf::Spelling => it.sense.map_or(false, has_known_vendor),
+        NameOf::Triple | NameOf::Spelling | NameOf::Words => it.sense.map_or(false, has_known_vendor),
     };
     meaning_with(word, &mut is_known).is_some()
 }

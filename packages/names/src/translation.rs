@@ -200,7 +200,7 @@ impl Dialect {
         let says_less = |it: &Name| self.read(it.as_str()).map_or(false, |it| it != meant.triple);
         match found {
             Ok(it) if self == to && says_less(&it) && self.read(name) == Ok(meant.triple) => {
-                Ok(Name::of(name).unwrap_or(it))
+                Ok(Name::of(&[name]).unwrap_or(it))
             }
             found => found.map_err(TranslateError::Write),
         }

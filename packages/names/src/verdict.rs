@@ -48,7 +48,7 @@ impl<'a> Word<'a> {
         let is_hurd = |it: Sense<'_>| it.triple.operating_system == OperatingSystem::Hurd;
         let is_versioned = |it: Sense<'_>| text.contains("-gnu0.") && is_hurd(it);
         let mut is_of_tool = |it: &Meaning<'_>| match it.of {
-            NameOf::Triple => false,
+            NameOf::Triple | NameOf::Words => false,
             NameOf::Dialect(Dialect::Gnu) if own.is_ok() => {
                 text.contains("-gnu0.") && it.sense.map_or(false, is_versioned)
             }

@@ -56,17 +56,24 @@ its words name x86_64-unknown-linux=x86_64-linux, gnu-make-linux-x64, softfp-gam
     x86-64-v3.1-linux, x64-linux-none, x86_64.1-linux, linux-x64-r5, linux-x64-V5, eGPU-linux-x64, GNULinux-x64, \
     linux-x64-v12
 it names nothing known here=foo
-it names several machines=linuxmusl_ppc64, linux-ppc64-gibc, x86_64-universal, x86_64-arm64-mips-linux, multi-arch-linux, \
+it names several machines=linux-armv6-armv7, linuxmusl_ppc64, linux-ppc64-gibc, x86_64-universal, x86_64-arm64-mips-linux, multi-arch-linux, \
     openwrt-sdk-23.05_musl.Linux-x86_64
 it names a machine that no triple has=arm64e-linux
 it names an Arm of 32 or of 64 bits, and no system=arm
-its words name arm-unknown-linux=linux-arm-32bit, armv8-32-linux
-it names a system, and no single machine known here=linux, linux-x86_w64, linux-x86_6f, linux-arm-64bit, \
+its words name arm-unknown-linux=linux-arm-32bit
+its words name armv8-unknown-linux=armv8-32-linux
+its words name armv8-unknown-linux-gnueabihf=linux-armv8-gnueabihf
+its words name arm-unknown-linux-eabihf of the level v7=linux-armhf-v7
+its words name arm-unknown-linux-eabi of the level v6=linux-armel-v6
+its words name i686-unknown-linux-musl=alpine-i686
+its words say linux, and no single machine known here=linux, linux-x86_w64, linux-x86_6f, \
     arm-v7.1-linux, mip_s64eb-linux, powerp_c-4-linux
 it names several systems=x64-linux-windows, cmake-4.0.0-sunos-sparc64.tar.gz
 its words say arm, soft-float, linux, gnu; here nobody knows `__`=arm-linux-gnueabi__
-it names a machine, and no system=x64
-it names a machine, and no system known here=x64-foo
+its words say 64 bits, linux, and no single machine known here=linux-arm-64bit
+its words say x86_64, and no system=x64
+its words say powerpc64le, and no system=elf64-powerpcle
+its words say x86_64, and no system known here=x64-foo
 its words say x86_64, its level v3, gnu, and no system=x86-64-v3--glibc--stable-2024.02-1.tar.xz
 its words say powerpc64, its level power8, gnu, and no system=powerpc64-power8--glibc--stable-2024.02-1.tar.xz
 its words name powerpc64le-unknown-linux=ppc64le-power8-linux
@@ -84,19 +91,20 @@ its words name x86_64-unknown-linux of the level v3=x86_64_v3-linux, x86-64-v3-l
 its words name powerpc64le-unknown-linux-gnu of the level power9=powerpc64le-power9-linux-gnu
 its words name armv6m-unknown-none-eabi=armv6-m-none-eabi
 its words say x86_64, its level v2, linux; here nobody knows `foo`=x86_64_v2-linux-foo
+its words say x86_64, linux; here nobody knows `v3`=x86_64-linux-v3
 its words say x86_64, 32 bits, linux; here nobody knows `foo`=linux-x64-32bit-foo-bar
 its words name x86_64-unknown-linux of the level v4=x86_64_v4-linux, linux-amd64v4
 its words name x86_64-unknown-linux of the level v2=linux-amd64v2
 no triple says all that its words say: i686, 64 bits, linux=linux-x86-64bit, x86--64-linux
 no triple says all that its words say: x86_64, linux, gnu, spe=x64-linux-gnuspe
-its words name aarch64-unknown-linux-gnu=linux-arm64-glibc2.28
+its words name aarch64-unknown-linux-gnu=linux-arm64-glibc2.28, ld-linux-aarch64.so.1
 its words name aarch64-unknown-linux of the level v9=linux_arm64_v9.0, arm64-v9a-linux
 its words name aarch64-unknown-linux of the level v9.2=linux_arm64_v9.2
 its words say aarch64, linux; here nobody knows `v9`=linux/arm64/v9.10
 its words say aarch64, linux; here nobody knows `9`=linux/arm64/9
 its words name aarch64-unknown-linux of the level v8.2=linux_arm64_v8.2, aarch64-v8.2-linux, aarch64-v8.2a-linux
 its words name riscv64-unknown-linux of the level rva23u64=riscv64-rva23-linux, foo-1.0-linux-riscv64-rva23.tar.gz
-its words name aarch64-unknown-linux=linux_arm64_v8.0
+its words name aarch64-unknown-linux=linux_arm64_v8.0, GOOS=linux GOARCH=arm64
 its words name powerpc64-ibm-aix=ppc64-ibm-aix
 its words name x86_64-unknown-linux-newlib=linux-x64-newlib
 its words name aarch64-apple-ios-macabi=maccatalyst-arm64
@@ -111,15 +119,18 @@ its words name mips64-unknown-linux-gnuabi64=linux-mips64-gnuabi64
 its words name arm-unknown-linux-uclibceabi=linux-armel-uclibc
 its words name arm-unknown-linux-uclibceabihf=linux-armhf-uclibc
 its words name x86_64-unknown-linux-uclibc=linux-x64-uclibc
-its words name x86_64-pc-windows-gnullvm=win-x64-gnullvm
+its words name x86_64-pc-windows-gnullvm=win-x64-gnullvm, mingw-w64-clang-x86_64
 its words name x86_64-pc-windows-msvc=win-x64-msvc
-its words name armv7-unknown-linux=arm_v7-linux
+its words name armv7-unknown-linux=arm_v7-linux, GOOS=linux GOARCH=arm GOARM=7
 no triple says all that its words say: powerpc, 64 bits, linux=ppc-64.2-linux
 its words say x86_64, linux; here nobody knows `FOO`=linux-x64-FOOBar, linux-x64-FOO
 its words name armv7-unknown-linux-ohos=armv7-ohos
 its words say arm, hard-float, linux, uclibc; here nobody knows `foo`=armhf-linux-uclibc-foo
 its words may be of two targets: x86_64, linux, musl=sdk_musl.Linux-x86_64, musl-builder-linux-x64
-its words name x86_64-unknown-linux-musl=fd-musl_1.2.0_linux-x64
+its words name x86_64-unknown-linux-musl=fd-musl_1.2.0_linux-x64, ld-musl-x86_64.so.1
+its words name x86_64-unknown-uefi=BOOTX64.EFI
+its words name armeb-unknown-netbsd-eabihf of the level v6=earmv6hfeb
+its words name mipsisa32r6el-unknown-linux=linux-mips32r6el
 its words name i586-unknown-linux-musl=alpine-3.19-x86
 its words name arm-unknown-linux-eabihf=rust-analyzer-linux-armhf
 its words say i686, windows; here nobody knows `664`=win32-x86-664";
@@ -230,6 +241,7 @@ fn spelled_strings_are_read_or_refused_at_a_part() {
 /// A triple, or after `!` why there is none, and after `=` dialects with texts that have a name of it in them.
 const LOOSE: &str = "\
 armv7-linux-androideabi=uname Linux localhost 4.14.1 armv7l Android
+i686-unknown-linux=uname Linux a 2.6.32-754.el6.i686 #1 SMP i686 i686 i386 GNU/Linux
 aarch64-linux-android=uname Linux localhost 4.14.1 aarch64 Android
 x86_64-unknown-freebsd=uname FreeBSD a 13.2 b amd64 Android
 x86_64-unknown-linux=go tool-linux-amd64.tar.gz, go tool-linux-amd64.tar.bz2, node tool-linux-x64.tgz, \
@@ -238,13 +250,14 @@ x86_64-unknown-linux-gnu=rust tool-x86_64-unknown-linux-gnu.tar.zst, debian binu
     debian newlib-none_1_amd64.deb, debian amd64.deb, debian dc:amd64, debian g++:amd64, \
     zig x86_64-linux.5.10-gnu.2.31, pacman zlib-1-2-x86_64.pkg.tar.zst, debian gcc-x86-64-linux-gnu_12.2_amd64.deb
 x86_64-pc-windows-msvc=rust tool-x86_64-pc-windows-msvc.exe
+armv7-unknown-linux-musleabihf=dotnet dotnet-sdk-8.0-linux-musl-arm.tar.gz
 !=debian linux-image_1.rpi_armhf.deb, debian linux-image_1+rpt2_armhf.deb, debian hello-windows_1_amd64.deb, \
     debian x_1_arm.deb, go linux_armhf, go linux_386_softfloat, debian a:amd64, debian Libc:amd64, debian linux:amd64, \
     go tool-amd64.zip, debian raspbian-x_1_armhf.deb, gnu gcc, gnu arm-gcc, gnu aarch64-linux-gnu-foo, \
     rust x86_64-unknown-linux-musl.2.17, rust x86_64-unknown-linux-gnu.2.x, zig x86_64-linux.foo-gnu, \
     zig x86_64-linux.5.10...foo-gnu, python manylinux_2_17_x86_64.musllinux_1_2_x86_64, oci windows(10.0.*)/amd64, \
     oci linux(10.0)/amd64, oci windows(x)/amd64, go linux-i386-x86_64, oci linux/armhf/foo, \
-    debian hello-musl_2.10_amd64.deb
+    debian hello-musl_2.10_amd64.deb, dotnet tool-linux-musl-arm.tar.gz
 armv7-unknown-linux-gnueabihf=debian hello_1_armhf.deb
 i686-unknown-linux-gnu=debian libc6:i386
 !several machines=go tool_darwin_all.tar.gz
@@ -322,6 +335,7 @@ const WRITTEN: &str = "\
     rust armv8-pc-windows-msvc
 riscv64=debian riscv64imac-unknown-linux-gnu
 amd64=debian x86_64-lynx-linux-gnu
+i586-unknown-linux-musl=gnu i586-alpine-linux-musl
 !NoAbi=go aarch64-apple-darwin-sim, node aarch64-apple-macosx-sim
 !Simulator=go aarch64-apple-ios-sim, go x86_64-unknown-linux-sim
 !NeedsWasiVersion=go wasm32-wasi-sim
@@ -354,7 +368,7 @@ const SUGGESTED: &str = "\
     debian powerpcel, zig x86-lynx, apk arm-vx7, debian arm-elf, node x86-64, gnu x86-64, rust mipsel-sony-psx, \
     debian powerpcle, gnu arceb-linux-gnu, node linux-x32, debian armv6, rust aarch64-apple-ios-iso, node openuse-x64, \
     conda os-arm64, gnu armb-linux-gnueabi, zig arme-linux-gnueabi, debian spirv64, \
-    go linux/wasm, zig archlinux, rust x86_64-unknown-threadx, node linux-rv32, gnu mic-linux-gnu, node wsl-x64, node wii-x64
+    go linux/wasm, oci linux/amd6/v4, rpm i486-linux-gnu, nix i486-linux, gnu x86_64-unknown-wali, zig archlinux, rust x86_64-unknown-threadx, node linux-rv32, gnu mic-linux-gnu, node wsl-x64, node wii-x64
 linux/arm64=go nilux/arm64
 opensuse-x64=dotnet openuse-x64
 aix/ppc64=go aix/ppc46
@@ -363,6 +377,7 @@ aarch64-macos-none=zig aarch64-macosx-none
 powerpcspe=debian powerpc-spe
 x32=debian  x32\x20
 linux-x64-musl=node /opt/linux-x64-musl/linux-x64
+wasm32-wali-linux-musl=rust wasm32-wali-linx-musl
 armhf=debian armv7-hardfloat-linux-gnueabi.2.17
 musl-linux-amd64=debian mmusl-linux-amd64
 amd64=debian x86-64
@@ -372,7 +387,9 @@ wasi/wasm=oci wasi-wasm";
 const LEVELS: &str = "\
 v4=rpm foo-1-1.x86_64_v4.rpm
 neon=rpm foo-1-1.armv7hnl.rpm
+znver1=rpm foo-1-1.znver1.rpm
 power7=rpm glibc-2.17-317.el7.ppc64p7.rpm
+v9=rpm sparcv9
 v3=rpm libz1-x86-64-v3-1.2.13-1.1.x86_64.rpm, debian libc6:amd64v3, debian foo_1.0-1_amd64v3.deb, pacman bash-5.2-1-x86_64_v3.pkg.tar.zst, go linux_amd64_v3, \
     go foo_1.2_linux_amd64_v3.tar.gz
 =go linux_amd64_v1

@@ -134,7 +134,7 @@ fn rustc_targets() -> impl Iterator<Item = &'static str> {
 /// What the command shows of a name: the triples that it means, or why it has none, or what its words say.
 fn answer(name: &str) -> String {
     let (mut triples, mut whys) = (Vec::new(), Vec::new());
-    for Meaning { sense, .. } in meanings(name) {
+    for Meaning { sense, .. } in meanings(name).filter(|it| it.of != NameOf::Words) {
         let (answers, shown) = match sense {
             Ok(it) => (&mut triples, it.triple.to_string()),
             Err(why) => (&mut whys, format!("!{why}")),
@@ -149,7 +149,7 @@ fn answer(name: &str) -> String {
         (_, false, _) => whys.join(" "),
         (.., Some(Sense { triple, level: "" })) => format!("?{triple}"),
         _ if evidence.is_empty() => "?".into(),
-        _ => format!("?{evidence}"),
+        _ => format!("?{}", evidence.to_string().rsplit(", and ").next().unwrap()),
     }
 }
 

@@ -48,7 +48,7 @@ haiku=haiku1
 freebsd=freebsd13.2 freebsd13x
 wasi=wasi0.2
 psp=psp2
--=plan9 w64 solar darwxyz psx kfreebsd uclinux wasip3 iso17x iosé17 linx5.10 wasip4 psx1 5.10 . aux7";
+-=plan9 wali w64 solar darwxyz psx kfreebsd uclinux wasip3 iso17x iosé17 linx5.10 wasip4 psx1 5.10 . aux7";
 
 const ARCHITECTURES: &str = "\
 x86_64=x86-64 X86_64 amd64 x8664

@@ -187,8 +187,9 @@ class Names(unittest.TestCase):
         self.assertEqual(meant(vendor)[0], (None, vendor))
         for nobody in "", "foo/bar", "\0", "linux/\u00e9", "x" * 100_000:
             self.assertEqual(meant(nobody), [])
-        self.assertEqual([[it.level for it in target_lexicon.meanings(name)]
-                          for name in ("linux/amd64/v3", "linux/amd64")], [["v3"], [None, None]])
+        self.assertEqual([[(it.level, it.by_words) for it in target_lexicon.meanings(name)]
+                          for name in ("linux/amd64/v3", "linux/amd64", "linux-x64-v3")],
+                         [[("v3", False)], [(None, False)] * 2, [("v3", True)]])
 
     def test_changes(self):
         for text, changes in (("amd64-unknown-freebsd13.2",

@@ -240,7 +240,7 @@ class Refusals(Refused):
                          r"\n  note: it is a name of python without a triple: several machines$")
         self.assertNotIn("note:", str(self.refusal(Triple, "linux/amd46")))
         for text, dialect, said in (("linux/arm", "debian", "it is a name of go and oci"), ("x\ud800", "go", None),
-                                    ("linux/amr64", None, "it names a system, and no single machine known here"),
+                                    ("linux/amr64", None, "its words say linux, and no single machine known here"),
                                     ("avr\u2013none", None, "with the dashes and quotes of ASCII it is `avr-none`")):
             error = str(self.refusal(Triple.read, text, dialect))
             self.assertEqual(error.partition("\n  note: ")[2], said or "")

@@ -3,7 +3,7 @@ use super::*;
 use crate::arguments::written;
 use crate::refusal::reason;
 use target_lexicon::{OperatingSystem, VendorRef};
-use target_names::{meanings, vendor_suggestion, ChosenLibc, Dialect, Evidence, Meaning, Meant, Sense};
+use target_names::{meanings, vendor_suggestion, ChosenLibc, Dialect, Evidence, Meaning, Meant, NameOf, Sense};
 
 pub fn command() -> Command {
     of_targets(
@@ -54,30 +54,15 @@ impl<'a> Meanings<'a> {
                 Err(why) => what.without_triple.push((of.name(), why)),
             }
         }
-        let evidence = Evidence::of(text);
-        let is_name = !what.meanings.is_empty() || !what.without_triple.is_empty();
-        match evidence.sense() {
-            _ if what.is_certain() => {}
-            Some(sense) if !is_name || has_system(&sense.triple) => what.add(sense, WORDS),
-            _ if is_name => {}
-            _ if evidence.is_empty() || !text.is_ascii() || Meant::by(text).is_some() => {
+        if what.meanings.is_empty() && what.without_triple.is_empty() {
+            let evidence = Evidence::of(text);
+            if evidence.is_empty() || !text.is_ascii() || Meant::by(text).is_some() {
                 return Err(Refusal::unknown_to_all(text, None));
             }
-            _ => what.known = Some(evidence.to_string()),
+            what.known = Some(evidence.to_string());
         }
         what.meanings.sort_by_key(|it| it.0.triple.operating_system == OperatingSystem::None_); // bare metal is last
         Ok(what)
-    }
-
-    /// Whether some tool means a target of a known vendor and a system, or a target of rustc, which is meant as it is; or
-    /// why it has none is known, except by the spelling of GNU's: it has no system `osx`.
-    fn is_certain(&self) -> bool {
-        let is_target = |it: &TripleRef<'_>| !it.vendor.is_custom() && has_system(it);
-        let is_rustc = |tools: &[&str]| tools.contains(&Dialect::Rust.name());
-        let is_meant = |(it, tools): &(Sense<'_>, Vec<_>)| is_target(&it.triple) || is_rustc(tools);
-        let is_by_spelling = |(tool, _): &(&str, _)| *tool == Dialect::Gnu.name();
-        self.meanings.iter().any(is_meant)
-            || self.meanings.is_empty() && !self.without_triple.iter().all(is_by_spelling)
     }
 
     fn add(&mut self, sense: Sense<'a>, tool: &'static str) {
@@ -110,13 +95,6 @@ impl<'a> Meanings<'a> {
     }
 }
 
-fn has_system(triple: &TripleRef<'_>) -> bool {
-    !matches!(triple.operating_system, OperatingSystem::None_ | OperatingSystem::Unknown)
-}
-
-/// In the place of tools, where the words of a name say what it means.
-const WORDS: &str = "words";
-
 impl Answer for Meanings<'_> {
     /// For each meaning a line with the tools that mean it, a note about its vendor, a line for each tool that has a
     /// name for it, and a line for each reason why others have none; or what is known.
@@ -128,7 +106,7 @@ impl Answer for Meanings<'_> {
                 show!(page, " of the level ", sense.level)?;
             }
             match tools[..] {
-                [WORDS] => page.put(", by its words\n")?,
+                [by] if by == NameOf::Words.name() => page.put(", by its words\n")?,
                 _ => show!(page, ", as ", tools.join(", "), "\n")?,
             }
             let own = self.note(&sense.triple).into_iter();

@@ -30,8 +30,8 @@ CUSTOM_VENDOR = 255
 #: `LEXICON_MAX_GROWTH`: no canonical string is longer by more than its target.
 MAX_GROWTH = 22
 
-#: `LEXICON_MAX_MEANINGS`.
-MAX_MEANINGS = 32
+#: `LEXICON_MAX_MEANINGS` and `LEXICON_BY_WORDS`.
+MAX_MEANINGS, BY_WORDS = 32, 255
 
 #: The size of the first buffer for a string, which has room for every printed triple without a long custom vendor.
 FIRST_SIZE = 128

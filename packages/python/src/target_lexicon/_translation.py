@@ -77,7 +77,7 @@ def translate(
 
 class Meaning(NamedTuple):
     """What a string means to a tool that has it as a name; or, without a dialect, as one that is spelled like a
-    triple."""
+    triple, or by its words."""
 
     dialect: Optional[Dialect]
     #: The canonical triple, or None if no triple means the same.
@@ -87,16 +87,20 @@ class Meaning(NamedTuple):
     #: The level of the machine that the name says and the triple can't state, such as ``v3`` of ``linux/amd64/v3``, or
     #None. `translate` keeps it.
     level: Optional[str] = None
+    #: Whether nobody has the name, and its words say just this.
+    by_words: bool = False
 
 
 def meanings(text: str) -> List[Meaning]:
     """What a name means to each dialect that has it, and then as a string that is spelled like a triple, if it is no
-    single word that one has.
+    single word that one has; and last what its words say, if that isn't certain.
 
     >>> [(str(it.dialect), str(it.triple)) for it in meanings("armhf")]
     [('debian', 'armv7-unknown-linux-gnueabihf'), ('apk', 'armv6-unknown-linux-musleabihf')]
     >>> [(it.dialect, it.triple, it.reason) for it in meanings("plan9/amd64")]
     [(Dialect.GO, None, 'Plan 9 is no known name')]
+    >>> [(str(it.triple), it.by_words) for it in meanings("x64-osx")]
+    [('x86_64-apple-darwin', True)]
 
     The list is empty if nobody means a target by the string.
     """
@@ -107,7 +111,8 @@ def meanings(text: str) -> List[Meaning]:
     for it in _library.meanings(owner):
         if it.status == _names.OK:
             triple = _triple_of(_library.TripleStruct.from_buffer_copy(it.triple), owner)
-            found.append(Meaning(dialects[it.dialect], triple, None, it.note))
+            by_words = it.dialect == _library.BY_WORDS
+            found.append(Meaning(None if by_words else dialects[it.dialect], triple, None, it.note, by_words))
         else:
             found.append(Meaning(dialects[it.dialect], None, it.note))
     return found
