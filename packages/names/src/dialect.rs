@@ -1,12 +1,11 @@
 //! The dialects, whose names are read and written by the rows of [`TABLES`].
 use crate::evidence::{level_spelled, said};
-use crate::gnu::read_as_gnu;
+use crate::gnu::{read_as_gnu, row_of_platform};
 use crate::levels::{is_same, machine_at, may_have_name};
 use crate::loose::last_tag;
 use crate::name::Name;
-use crate::platform::row_of_platform;
+use crate::reading::is_of_machine;
 use crate::shape::{is_another_target, unversioned, version, AbiRule, MachineRule, Rules};
-use crate::spelled::is_of_machine;
 use crate::table::refusals::SEVERAL;
 use crate::table::{Dialect, DIALECT_NAMES, ONLY_WRITTEN, TABLES, VERSION_RANGES};
 use core::cmp::Ordering;

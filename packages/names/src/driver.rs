@@ -1,8 +1,8 @@
 //! What a compiler's driver asks of a triple besides the queries. `checks/compare llvm` asks rustc and clang of each of rustc's targets.
-use crate::environment::library_and_abi;
 use crate::rustc_cfg::unlisted_system;
-use crate::shape::version;
-use crate::{ArmProfile, CLibrary, FloatAbi, Signedness};
+use crate::shape::{library_and_abi, version};
+use crate::{ArmProfile, CLibrary, Dialect, FloatAbi, Name, Signedness};
+use core::fmt;
 use target_lexicon::{
     Architecture, ArmArchitecture, BinaryFormat, CDataModel, DeploymentTarget, Environment, OperatingSystem,
     PointerWidth, TripleRef,
@@ -281,5 +281,32 @@ pub(crate) const fn wasm_or(format: BinaryFormat, architecture: Architecture) ->
     match architecture {
         Architecture::Wasm32 | Architecture::Wasm64 => BinaryFormat::Wasm,
         _ => format,
+    }
+}
+
+/// Debian's multiarch tuple of a target, which names its folders of libraries, as `dpkg-architecture
+/// -qDEB_HOST_MULTIARCH` prints it. `checks/compare elsewhere` asks dpkg for each.
+#[derive(Clone, Copy, Debug, PartialEq, Eq, Hash)]
+pub struct MultiarchTuple {
+    /// The prefix of GNU's tools, which is the tuple except on 32-bit x86.
+    prefix: Name,
+}
+
+impl MultiarchTuple {
+    /// The answer of [`TargetInfo::multiarch_tuple`].
+    pub(crate) fn of(triple: &TripleRef<'_>) -> Option<MultiarchTuple> {
+        Dialect::Debian.write(triple)?;
+        let prefix = Dialect::Gnu.write(Dialect::Debian.shape(triple))?;
+        Some(MultiarchTuple { prefix })
+    }
+}
+
+impl fmt::Display for MultiarchTuple {
+    fn fmt(&self, f: &mut fmt::Formatter<'_>) -> fmt::Result {
+        let prefix = self.prefix.as_str();
+        match prefix.strip_prefix("i686") {
+            Some(rest) => write!(f, "i386{rest}"),
+            None => f.write_str(prefix),
+        }
     }
 }

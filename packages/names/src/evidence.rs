@@ -12,13 +12,13 @@
 //! Constraints are only intersected. Words rule triples out, and they name one only if the triple says just what they say, and
 //! if each of them is understood, from the first that says a machine or a system: what comes before is the name of a program.
 //! What a system always has goes without saying, such as its usual vendor, or the floating-point arguments of Android.
-use crate::buffer::Buffer;
 use crate::dialect::Sense;
-use crate::environment::{is_on, library_and_abi};
-use crate::levels::is_at_most;
-use crate::shape::{unversioned, usual_vendor};
+use crate::levels::{is_at_most, is_same};
+use crate::name::Buffer;
+use crate::reading::first_part;
+use crate::shape::{is_on, library_and_abi, unversioned, usual_vendor};
 use crate::suggestions::{
-    architecture_of, edits_between, first_part, fit_alone, known_names, machine_of, visible, Place, FIRST_RULES,
+    architecture_of, edits_between, fit_alone, known_names, machine_of, visible, Place, FIRST_RULES,
 };
 use crate::table::{OTHER_WORDS, WORDS};
 use crate::{Dialect, FloatAbi};
@@ -175,7 +175,7 @@ impl<'a> Evidence<'a> {
 
     /// Takes a word, which says this or isn't known, after one that says a machine or a system, or another one.
     fn take(&mut self, word: Range<usize>, said: Option<&'static str>, before: Option<Kind>) -> Option<Kind> {
-        let has_begun = self.has_begun();
+        let has_begun = !self.is_empty();
         let text: &'a str = &self.text[word.clone()];
         let joint = self.text[..word.start].bytes().next_back();
         if let (Some(Kind::Machine | Kind::System), "32" | "64") = (before, text) {
@@ -284,10 +284,6 @@ impl<'a> Evidence<'a> {
         self.machine != Said::Unsaid || self.is_any_arm || self.is_other_machine
     }
 
-    fn has_begun(&self) -> bool {
-        self.has_machine() || self.system != Said::Unsaid
-    }
-
     fn say(&mut self, what: &'static str) {
         match what {
             "nothing" | "elf" | "kit" | "version" => {}
@@ -299,7 +295,7 @@ impl<'a> Evidence<'a> {
             "64" => self.width.add(PointerWidth::U64),
             "hard" => self.floats.add(FloatAbi::Hard),
             "soft" => self.floats.add(FloatAbi::Soft),
-            "v2" | "v3" | "v4" | "v5" | "v6" | "v7" | "neon" | "i486" => self.level.add(what),
+            "v2" | "v3" | "v4" | "v5" | "v6" | "v7" | "neon" | "i486" | "pentium4" | "athlon" => self.level.add(what),
             "alpine" => self.is_of_alpine = true,
             "node" => self.is_of_node |= !self.has_machine(),
             _ if what.starts_with("power") && !what.starts_with("powerpc") || what.starts_with("rva") => {
@@ -321,12 +317,16 @@ impl<'a> Evidence<'a> {
 
     /// Of a word without a level and one with it, or two of the same level, both are said.
     fn add_machine(&mut self, machine: Architecture) {
-        let is_or_has_more = |it, other| is_at_most((it, ""), (other, "")) && (has_no_level(it) || is_at_most((other, ""), (it, "")));
+        let is_less = |it, other| has_no_level(it) && is_at_most((it, ""), (other, ""));
         self.machine = match self.machine {
-            Said::One(it) if is_or_has_more(machine, it) => Said::One(it),
-            Said::One(it) if !is_or_has_more(it, machine) => Said::Contradicted,
-            Said::Contradicted => Said::Contradicted,
-            _ => Said::One(machine),
+            Said::Unsaid => Said::One(machine),
+            Said::One(it) if is_less(it, machine) => Said::One(machine),
+            Said::One(it) if is_less(machine, it) || it == machine => Said::One(it),
+            // A word for an i586 isn't one for x86, of which no level is said.
+            Said::One(it) if is_same((machine, ""), (it, "")) && !matches!(it, Architecture::X86_32(_)) => {
+                Said::One(it)
+            }
+            _ => Said::Contradicted,
         };
     }
 
@@ -342,17 +342,12 @@ impl<'a> Evidence<'a> {
     /// Whether no word says a machine or a system.
     #[must_use]
     pub fn is_empty(&self) -> bool {
-        !self.has_begun()
+        !self.has_machine() && self.system == Said::Unsaid
     }
 
     /// Whether no word says anything of a target.
     pub(crate) fn is_silent(&self) -> bool {
         self.is_empty() && self.library == Said::Unsaid && self.floats == Said::Unsaid && self.form == Said::Unsaid
-    }
-
-    /// Whether words say a system and nothing of a machine, and each is understood.
-    pub(crate) fn is_only_system(&self) -> bool {
-        self.system != Said::Unsaid && !self.has_machine() && self.unknown.is_none() && !self.has_title
     }
 
     /// Whether words say a machine and a system, and each is understood.
@@ -364,6 +359,7 @@ impl<'a> Evidence<'a> {
     pub(crate) fn machine(&self) -> Said<Architecture> {
         let arm = Architecture::Arm(if self.is_v8 { ArmArchitecture::Armv8 } else { ArmArchitecture::Arm });
         let may_be_64 = self.width.allows(PointerWidth::U64);
+        let is_of_alpine = |word: &str| self.is_of_alpine && self.text.contains(word);
         let has_floats = self.floats != Said::Unsaid || self.level == Said::One("neon");
         let is_arm = |it| matches!(it, Architecture::Arm(_) | Architecture::Aarch64(_));
         match self.machine {
@@ -372,14 +368,13 @@ impl<'a> Evidence<'a> {
             // In `aarch64-arm-none-eabi` it is another one.
             Said::One(Architecture::Aarch64(_)) if self.is_any_arm && has_floats => Said::Contradicted,
             Said::Unsaid if self.is_any_arm && (has_floats || !may_be_64) => Said::One(arm),
-            Said::One(it @ Architecture::Arm(ArmArchitecture::Arm)) => match self.floats {
-                _ if self.is_v8 => Said::One(arm),
-                Said::One(FloatAbi::Hard) if self.is_of_alpine => Said::One(Architecture::Arm(ArmArchitecture::Armv6)),
-                Said::One(FloatAbi::Soft) if self.is_of_alpine => Said::One(Architecture::Arm(ArmArchitecture::Armv5te)),
-                _ => Said::One(it),
-            },
+            Said::One(Architecture::Arm(ArmArchitecture::Arm)) if self.is_v8 => Said::One(arm),
+            Said::One(it) if it == arm && is_of_alpine("armhf") => Said::One(Architecture::Arm(ArmArchitecture::Armv6)),
+            Said::One(it) if it == arm && is_of_alpine("armel") => {
+                Said::One(Architecture::Arm(ArmArchitecture::Armv5te))
+            }
             // Alpine's `x86` is the i586.
-            Said::One(Architecture::X86_32(_)) if self.is_of_alpine && self.text.contains("x86") => {
+            Said::One(Architecture::X86_32(_)) if is_of_alpine("x86") => {
                 Said::One(Architecture::X86_32(X86_32Architecture::I586))
             }
             said => said,
@@ -504,7 +499,7 @@ impl<'a> Evidence<'a> {
                 // Only an Arm without a C library may pass them in either way.
                 None => self.floats == Said::Unsaid || is_arm && self.floats.one().is_some(),
             }
-            && (self.library == Said::Unsaid || self.library == Said::One(library))
+            && self.library.allows(library)
     }
 
     /// Whether the machine may be this: it is the one of the words, or of a level where they say none.
@@ -538,7 +533,7 @@ impl<'a> Evidence<'a> {
     /// Whether the C library may be that of a triple.
     pub(crate) fn allows_library(&self, triple: &TripleRef<'_>) -> bool {
         let library = said_by(triple.environment).map_or("", |it| it.0);
-        self.library == Said::Unsaid || self.library == Said::One(library)
+        self.library.allows(library)
     }
 }
 

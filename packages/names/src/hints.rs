@@ -1,11 +1,12 @@
-//! Hints: the name that was perhaps meant by one that isn't known, and what is wrong with it.
+//! Hints: the name that was perhaps meant by one that isn't known, what is wrong with it, and what else is known of it.
 //!
 //! A hint says what the words of the name say. If not all of these are understood, it is the nearest name that contradicts none of them, if
 //! the nearest names of all tools are of its machine and byte order: otherwise another machine may have been meant, and there is none.
-use crate::buffer::Buffer;
 use crate::dialect::Row;
 use crate::evidence::{has_other_word, only_machine, says_nothing};
 use crate::levels::{is_at_most, level_of};
+use crate::meanings::{meaning_with, readers};
+use crate::name::Buffer;
 use crate::near::ends_with_digit;
 use crate::shape::unversioned;
 use crate::suggestions::{
@@ -248,7 +249,9 @@ impl<'a> Hints<'a> {
     fn nearest(&self, dialect: Dialect) -> Option<&'static str> {
         let (name, evidence) = (self.name, &self.evidence);
         // A system's word of which all is understood isn't misspelled: `archlinux`.
-        if !name.contains(SIGNS) && !name.bytes().any(|it| it.is_ascii_digit()) && evidence.is_only_system() {
+        let is_system = evidence.system != Said::Unsaid && !evidence.has_machine();
+        let is_whole = is_system && evidence.unknown.is_none() && !evidence.has_title;
+        if is_whole && !name.contains(SIGNS) && !name.bytes().any(|it| it.is_ascii_digit()) {
             return None;
         }
         let allows = |row: &Row| dialect.sense(row.0).map_or(false, |it| self.evidence.allows(&it));
@@ -330,16 +333,6 @@ fn joined(name: &str) -> Buffer<64> {
     is_written.map_or(Buffer::new(), |()| joined)
 }
 
-/// The name of a tool that is this one with the signs of a word: `linux/arm64` for `linux-arm64`, if it is for
-/// `linux/arn64`.
-fn with_signs_of(word: &str, name: &str) -> Option<&'static str> {
-    let mut signs = word.chars().filter(|it| SIGNS.contains(it));
-    let mut sign = |it| if SIGNS.contains(&it) { signs.next().unwrap_or(it) } else { it };
-    let mut spelled = Buffer::<64>::new();
-    name.chars().try_for_each(|it| spelled.write_char(sign(it))).ok()?;
-    Dialect::ALL.iter().find_map(|it| it.name_in_other_letters(spelled.as_str()))
-}
-
 /// The lengths of names that may be near: all others are farther than a misspelling.
 fn lengths_near(name: &str) -> Range<usize> {
     name.len().saturating_sub(2)..name.len() + 3
@@ -362,7 +355,7 @@ fn has_number_of_abi(name: &str) -> bool {
 /// A name that was perhaps meant. `Display` writes it whole.
 #[derive(Clone, Copy, Debug, PartialEq, Eq)]
 pub struct Meant<'a> {
-    word: &'a str,
+    pub(crate) word: &'a str,
     /// The misspelled part of the word.
     pub part: TextPart<'a>,
     /// What is suggested instead.
@@ -378,11 +371,6 @@ impl fmt::Display for Meant<'_> {
 }
 
 impl<'a> Meant<'a> {
-    /// With this instead of a part of a word.
-    pub(crate) fn with(word: &'a str, part: TextPart<'a>, suggestion: Suggestion<'a>) -> Self {
-        Meant { word, part, suggestion }
-    }
-
     /// The name that was perhaps meant by a misspelled one: a triple with another part, or else a name of a tool. All
     /// of whose words are known is no misspelled name. Nothing is allocated.
     ///
@@ -408,11 +396,9 @@ impl<'a> Meant<'a> {
             return of_triple;
         }
         let names = Dialect::ALL.iter().filter_map(|it| hints.name_of(*it));
-        let names = names.filter(|name| !word.contains(name));
-        let of_tools = names.map(|name| {
-            let name = with_signs_of(word, name).unwrap_or(name);
-            Meant { word, part: TextPart { text: word, start: 0 }, suggestion: Suggestion::of(name) }
-        });
+        let part = TextPart { text: word, start: 0 };
+        let of_tools = names.filter(|name| !word.contains(name));
+        let of_tools = of_tools.map(|name| Meant { word, part, suggestion: Suggestion::of(name) });
         of_triple.into_iter().chain(of_tools).min_by_key(Meant::edits)
     }
 
@@ -478,4 +464,90 @@ fn is_part(word: &str, name: &str) -> bool {
     let before = name.strip_suffix(word).and_then(|it| it.bytes().last());
     let is_sign = |byte: &u8| b"/ -_".contains(byte);
     after.iter().chain(&before).any(is_sign)
+}
+
+/// What is known of a refused string, besides what is suggested and who [reads](crate::readers) it. `Display` says it.
+#[derive(Clone, Copy, Debug)]
+#[non_exhaustive]
+pub enum Note<'a> {
+    /// This string is a name with the dashes of ASCII, and without the quotes of a word processor.
+    Ascii(&'a str),
+    /// What is wrong with it as a name of a dialect.
+    Mistake(Mistake<'a>),
+    /// What its words say.
+    Words(Evidence<'a>),
+}
+
+impl<'a> Note<'a> {
+    /// Of a string that isn't a name of the dialect, or without one, of a string that is refused as a triple. Nothing is
+    /// allocated.
+    ///
+    /// ```
+    /// use target_names::{Dialect, Note};
+    ///
+    /// let note = |text, dialect| Note::of(text, dialect).map(|it| it.to_string());
+    /// let ascii = "with the dashes and quotes of ASCII it is `x86_64-linux-gnu`";
+    /// assert_eq!(note("\u{201c}x86_64\u{2011}linux\u{2013}gnu\u{201d}", None).unwrap(), ascii);
+    /// assert_eq!(note("linux/amr64", None).unwrap(), "its words say linux, and no single machine known here");
+    /// assert_eq!(note("linux/arm", Some(Dialect::Debian)).unwrap(), "it is a name of go and oci");
+    /// assert_eq!(note("linux/arm", None), None); // `readers` says who reads it
+    /// ```
+    #[must_use]
+    pub fn of(text: &'a str, dialect: Option<Dialect>) -> Option<Note<'a>> {
+        let words = || {
+            let evidence = Evidence::of(text);
+            (!evidence.is_empty()).then_some(Note::Words(evidence))
+        };
+        if is_typeset(text) {
+            return Some(Note::Ascii(text));
+        }
+        match dialect {
+            Some(dialect) => {
+                let is_meant = || dialect.suggestion(text).is_some();
+                match dialect.mistake(text) {
+                    None | Some(Mistake::NoTriple(_)) if is_meant() => None,
+                    None => words(),
+                    mistake => mistake.map(Note::Mistake),
+                }
+            }
+            None if readers(text).next().is_some() || Meant::by(text).is_some() => None,
+            // A number that nobody knows may be of the machine, as in `x86_46`: then it isn't the one that is said.
+            None => words().filter(|it| !says_digit_last(it)),
+        }
+    }
+}
+
+impl fmt::Display for Note<'_> {
+    fn fmt(&self, f: &mut fmt::Formatter<'_>) -> fmt::Result {
+        match self {
+            Note::Ascii(text) => {
+                f.write_str("with the dashes and quotes of ASCII it is `")?;
+                plain(text).try_for_each(|it| f.write_char(it))?;
+                f.write_str("`")
+            }
+            Note::Mistake(mistake) => mistake.fmt(f),
+            Note::Words(evidence) => evidence.fmt(f),
+        }
+    }
+}
+
+fn says_digit_last(note: &Note<'_>) -> bool {
+    let mut said = Buffer::<512>::new();
+    write!(said, "{note}").is_ok() && ends_with_digit(said.as_str().trim_end_matches('`'))
+}
+
+/// A string with the dashes that a word processor made of `-`, and without its quotes and white space around it.
+fn plain(text: &str) -> impl Iterator<Item = char> + '_ {
+    let is_around = |it: char| ('\u{2018}'..='\u{201f}').contains(&it) || it.is_whitespace();
+    let is_dash = |it: char| ('\u{2010}'..='\u{2015}').contains(&it) || it == '\u{2212}';
+    text.trim_matches(is_around).chars().map(move |it| if is_dash(it) { '-' } else { it })
+}
+
+/// Whether a string is a name of some tool but for the dashes and quotes of a word processor.
+pub(crate) fn is_typeset(text: &str) -> bool {
+    let mut spelled = Buffer::<LONGEST_PATH>::new();
+    !text.is_ascii()
+        && plain(text).try_for_each(|it| spelled.write_char(it)).is_ok()
+        && spelled.as_str().bytes().all(|it| it == b' ' || it.is_ascii_graphic())
+        && meaning_with(spelled.as_str(), &mut |_| true).is_some()
 }

@@ -8,7 +8,9 @@
 //! would mean machines that don't run the program; and if it isn't less. A name that says none, as `arm`, is for all.
 use crate::evidence::has_no_level;
 use crate::suggestions::known_names;
-use target_lexicon::{Architecture, ArmArchitecture, Endianness, Field, Named as _, X86_32Architecture::I386};
+use target_lexicon::{
+    Architecture, ArmArchitecture, CleverArchitecture, Endianness, Field, Named as _, X86_32Architecture::I386,
+};
 
 /// An architecture, and a level of it that no triple states, such as `v3` of x86-64, or nothing.
 pub(crate) type Machine<'a> = (Architecture, &'a str);
@@ -62,6 +64,7 @@ pub(crate) fn level_of((architecture, word): Machine<'_>) -> (Architecture, u32)
         X86_64h => (X86_64, first(3)),
         X86_64 => (X86_64, first(1)),
         Sparcv9 => (Sparc64, 0),
+        Clever(_) => (Clever(CleverArchitecture::Clever), 0),
         Powerpc64le => (architecture, first(8)),
         Riscv32(_) => (Riscv32(Bits32::Riscv32), extensions(architecture.name())),
         Riscv64(Bits64::Riscv64a23) => (Riscv64(Bits64::Riscv64), first(8)),

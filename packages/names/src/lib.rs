@@ -33,29 +33,21 @@ extern crate alloc;
 #[cfg(feature = "std")]
 extern crate std;
 
-mod buffer;
 mod dialect;
 mod driver;
-mod environment;
 mod evidence;
 mod gnu;
 mod hints;
 mod levels;
-mod llvm_target;
 mod loose;
 mod meanings;
-mod multiarch;
 mod name;
-mod named;
 mod near;
-mod note;
 #[cfg(feature = "alloc")]
 mod parse_name_error;
-mod platform;
 mod reading;
 mod rustc_cfg;
 mod shape;
-mod spelled;
 mod suggestions;
 #[rustfmt::skip]
 mod table;
@@ -68,20 +60,16 @@ mod verdict;
 mod versions;
 
 pub use dialect::{NameError, Sense};
-pub use driver::{TypeLayout, TypeSizes};
+pub use driver::{MultiarchTuple, TypeLayout, TypeSizes};
 use evidence::Said;
 pub use evidence::{level_spelled, Evidence};
-pub use hints::{Meant, Mistake};
-pub use llvm_target::LlvmTarget;
+pub use hints::{Meant, Mistake, Note};
 pub use meanings::{meanings, readers, Meaning, NameOf};
-pub use multiarch::MultiarchTuple;
 pub use name::Name;
-pub use note::Note;
 #[cfg(feature = "alloc")]
 pub use parse_name_error::UnknownWord;
-pub use reading::{changes, read, Change, ChangedParts};
-pub use rustc_cfg::{is_vendor_of_rustc, RustcCfg};
-pub use spelled::Spelling;
+pub use reading::{changes, read, Change, Spelling};
+pub use rustc_cfg::{is_vendor_of_rustc, LlvmTarget, RustcCfg};
 pub use suggestions::{
     is_visible, known_names, suggestion, suggestion_in, vendor_suggestion, visible, Suggest, Suggestion, Visible, SHOWN,
 };

@@ -1,8 +1,8 @@
 //! Names with what files and commands have around them.
-use crate::buffer::Buffer;
 use crate::dialect::Sense;
-use crate::environment::{environment_of, library_and_abi};
 use crate::hints::LONGEST_PATH;
+use crate::name::Buffer;
+use crate::shape::{environment_of, library_and_abi};
 use crate::table::OF_CONFIG_SUB;
 use crate::{Dialect, Evidence, FloatAbi, NameError, Said};
 use core::fmt::{self, Write};
@@ -103,9 +103,11 @@ impl Dialect {
     /// little-endian. Nor is one `armhf`, which is of another version of Arm to each tool.
     fn read_package(self, text: &str) -> Option<Found> {
         let scoped = text.split_once('@').and_then(|it| it.1.split_once('/'));
-        let name = scoped.map_or(text, |it| it.1).split(['@', '/']).next()?;
+        let name = scoped.map_or(text, |it| it.1);
+        let (name, path) = name.split_at(name.find(['@', '/']).unwrap_or(name.len()));
         let (start, found) = self.read_end(name, ['-'; 3])?;
-        let says_nothing = || start > 0 && Evidence::of(&name[..start]).is_silent();
+        let before = Evidence::of(&name[..start]);
+        let says_nothing = || start > 0 && before.is_silent();
         let has_order = |it: &Sense<'_>| match Evidence::of(name).machine().one() {
             Some(said) => said.endianness() == it.triple.architecture.endianness(),
             None => true,
@@ -116,7 +118,9 @@ impl Dialect {
         };
         let is_package =
             || found.as_ref().map_or(false, has_order) && says_nothing() && !name.split('-').any(says_floats);
-        (scoped.is_some() || is_package()).then_some(found)
+        let is_level = path.strip_prefix("/v").map_or(false, |it| it.starts_with(|it: char| it.is_ascii_digit()));
+        let is_scoped = scoped.is_some() && !(before.has_machine() && before.system != Said::Unsaid);
+        (!is_level && (is_scoped || is_package())).then_some(found)
     }
 
     /// Where the longest end of a text begins that is a name, after one of these signs or whole, and what it means.
@@ -249,11 +253,17 @@ impl Dialect {
                 let last = words().next_back();
                 let system = last.filter(|it| *it == "illumos").unwrap_or(system);
                 let read = |it: &str| self.read_system_and_machine(system, core::iter::once(it));
-                let machines = words().rev().skip_while(|it| AFTER_MACHINES.contains(it)).map(read);
-                let found = machines.take_while(|it| *it != Some(Err(NameError::Unknown))).last()??;
-                Some(found.map(|it| match last {
-                    Some("Android") => Sense { triple: on_android(it.triple), ..it },
-                    _ => it,
+                let known = |it: &str| read(it).filter(|it| *it != Err(NameError::Unknown));
+                let machines = words().rev().skip_while(|it| AFTER_MACHINES.contains(it)).map_while(known);
+                let found = machines.last()?;
+                Some(found.map(|it| {
+                    let environment = match it.triple.architecture {
+                        Architecture::Arm(_) => Environment::Androideabi,
+                        _ => Environment::Android,
+                    };
+                    let is_android = last == Some("Android") && it.triple.operating_system == OperatingSystem::Linux;
+                    let android = TripleRef { environment, ..it.triple };
+                    Sense { triple: if is_android { android } else { it.triple }, ..it }
                 }))
             }
             found => found,
@@ -322,18 +332,6 @@ const TOOLS: &str = "gcc-ar gcc-nm gcc-ranlib gcov-dump gcov-tool lto-dump gcc g
 const AFTER_MACHINES: [&str; 10] =
     ["GNU/Linux", "Linux", "GNU", "Haiku", "illumos", "Android", "Toybox", "Msys", "Cygwin", "unknown"];
 
-/// The triple of Android on the machine of another one of Linux.
-fn on_android(triple: TripleRef<'static>) -> TripleRef<'static> {
-    TripleRef {
-        environment: match (triple.operating_system, triple.architecture) {
-            (OperatingSystem::Linux, Architecture::Arm(_)) => Environment::Androideabi,
-            (OperatingSystem::Linux, _) => Environment::Android,
-            _ => triple.environment,
-        },
-        ..triple
-    }
-}
-
 /// What a package is for whose file has this before its architecture: of the machine's level if words say one, as in openSUSE's
 /// `libz1-x86-64-v3`. `None` if they say something else: a system, unless they name a machine too, for which the package then has a
 /// tool, or a C library. Raspbian's Arm is older than Debian's, and Termux has the name of Debian's oldest.
@@ -342,6 +340,7 @@ fn package_of(before: &str, sense: Sense<'static>) -> Option<Sense<'static>> {
     let is_tool = evidence.machine() != Said::Unsaid;
     let is_arm = matches!(triple.architecture, Architecture::Arm(_));
     let is_v7 = triple.architecture == Architecture::Arm(ArmArchitecture::Armv7);
+    let armv6 = Architecture::Arm(ArmArchitecture::Armv6);
     let is_of_raspbian = |word: &str| {
         let word = word.trim_end_matches(|it: char| it.is_ascii_digit());
         ["raspbian", "rpi", "rpt"].contains(&word)
@@ -350,7 +349,7 @@ fn package_of(before: &str, sense: Sense<'static>) -> Option<Sense<'static>> {
     let may_be = (is_tool || evidence.system == Said::One("none") || evidence.allows_system(triple))
         && evidence.allows_library(triple)
         && !(is_arm && FloatAbi::of(triple).is_none())
-        && !(is_v7 && words.any(is_of_raspbian));
+        && !(is_v7 && (words.any(is_of_raspbian) || evidence.machine() == Said::One(armv6)));
     let level = if sense.level.is_empty() { evidence.level_of(triple.architecture) } else { sense.level };
     may_be.then_some(Sense { level, ..sense })
 }

@@ -1,5 +1,5 @@
 //! What a name means to every tool that has it.
-use crate::spelled::is_of_machine;
+use crate::reading::is_of_machine;
 use crate::table::OF_CONFIG_SUB;
 use crate::{level_spelled, read, Dialect, Evidence, NameError, Said, Sense};
 use target_lexicon::{KnownVendor, OperatingSystem, TripleRef, VendorRef};
@@ -171,8 +171,13 @@ fn as_triple(text: &str) -> Option<Meaning<'_>> {
         Ok(triple) => (NameOf::Triple, triple),
         Err(_) => (NameOf::Spelling, read(text).ok()?),
     };
+    // A file's name may be a vendor: `arm-tool_1.0_linux_amd64.tar.gz`.
+    let is_of_target = |it: &str| {
+        let evidence = Evidence::of(it);
+        is_of_machine(it) || evidence.has_machine() && evidence.system != Said::Unsaid
+    };
     match triple.vendor {
-        VendorRef::Custom(vendor) if is_of_machine(vendor) => None,
+        VendorRef::Custom(vendor) if is_of_target(vendor) => None,
         // As in vcpkg's `x64-uwp`, which is on Windows.
         VendorRef::Known(KnownVendor::Uwp)
             if of == NameOf::Spelling && triple.operating_system == OperatingSystem::Unknown =>

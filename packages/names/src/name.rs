@@ -1,6 +1,7 @@
-//! A name of a target in a dialect.
-use crate::buffer::Buffer;
+//! A name of a target in a dialect, without an allocation. It and other values are displayed as their names, and most are in the order of these.
 use crate::dialect::Numbers;
+use crate::{ArmProfile, CLibrary, ChosenLibc, Dialect, FloatAbi, NameOf, Signedness};
+use core::cmp::Ordering;
 use core::fmt::{self, Write};
 
 /// A name of a target in a dialect.
@@ -66,5 +67,77 @@ impl PartialEq<&str> for Name {
 impl fmt::Debug for Name {
     fn fmt(&self, f: &mut fmt::Formatter<'_>) -> fmt::Result {
         fmt::Debug::fmt(self.as_str(), f)
+    }
+}
+
+macro_rules! named {
+    ($($type:ty, $name:ident;)*) => {$(
+        impl fmt::Display for $type {
+            fn fmt(&self, f: &mut fmt::Formatter<'_>) -> fmt::Result {
+                f.pad(self.$name())
+            }
+        }
+    )*};
+}
+
+macro_rules! ordered {
+    ($($type:ty, $name:ident;)*) => {$(
+        impl Ord for $type {
+            fn cmp(&self, other: &Self) -> Ordering {
+                self.$name().cmp(other.$name())
+            }
+        }
+
+        impl PartialOrd for $type {
+            fn partial_cmp(&self, other: &Self) -> Option<Ordering> {
+                Some(self.cmp(other))
+            }
+        }
+
+        named! { $type, $name; }
+    )*};
+}
+
+named! {
+    ArmProfile, name;
+    NameOf, name;
+}
+ordered! {
+    CLibrary, name;
+    Dialect, name;
+    FloatAbi, name;
+    ChosenLibc, name;
+    Signedness, name;
+    Name, as_str;
+}
+
+/// A text of at most so many bytes: what doesn't fit is an error of its writer.
+#[derive(Clone, Copy, PartialEq, Eq, Hash)]
+pub(super) struct Buffer<const SIZE: usize> {
+    bytes: [u8; SIZE],
+    length: usize,
+}
+
+impl<const SIZE: usize> Buffer<SIZE> {
+    pub(super) fn new() -> Self {
+        Buffer { bytes: [0; SIZE], length: 0 }
+    }
+
+    pub(super) fn as_str(&self) -> &str {
+        core::str::from_utf8(&self.bytes[..self.length]).unwrap_or("")
+    }
+
+    pub(super) fn make_lowercase(&mut self) {
+        self.bytes.make_ascii_lowercase();
+    }
+}
+
+impl<const SIZE: usize> Write for Buffer<SIZE> {
+    fn write_str(&mut self, text: &str) -> fmt::Result {
+        let end = self.length + text.len();
+        let room = self.bytes.get_mut(self.length..end).ok_or(fmt::Error)?;
+        room.copy_from_slice(text.as_bytes());
+        self.length = end;
+        Ok(())
     }
 }

@@ -1,5 +1,5 @@
 //! Why a word is no dialect, in an error that owns it.
-use crate::suggestions::visible;
+use crate::suggestions::{is_swapped, visible};
 use crate::table::OTHER_NAMES;
 use crate::{ChosenLibc, Dialect};
 use alloc::boxed::Box;
@@ -37,15 +37,10 @@ impl UnknownWord {
         if !self.is_dialect {
             return None;
         }
-        let names = Dialect::ALL.iter().map(|it| it.name());
+        let mut names = Dialect::ALL.iter().map(|it| it.name());
         let word = self.word.to_ascii_lowercase();
-        let count = |text: &str, byte| text.bytes().filter(|it| *it == byte).count();
-        let has_its_letters = |name: &str| {
-            let mut letters = name.bytes();
-            name.len() == word.len() && letters.all(|it| count(name, it) == count(&word, it))
-        };
         let begins = names.clone().find(|name| word.starts_with(name));
-        begins.or_else(|| names.clone().find(|name| has_its_letters(name)))
+        begins.or_else(|| names.find(|name| is_swapped(word.as_bytes(), name.as_bytes())))
     }
 }
 

@@ -114,20 +114,6 @@ fn each_row_is_read_and_written() {
     assert!(read_rows > 1300 && written_rows > 1000 && refused > 250, "{read_rows} {written_rows} {refused}");
 }
 
-#[test]
-fn one_number_of_a_tag_is_a_version() {
-    for (dialect, row) in rows().filter(|(dialect, _)| dialect.table().rules.tags) {
-        let Some((before, after)) = row.0.split_once("*_*").filter(|_| row.2 != Way::Read) else {
-            continue;
-        };
-        for major in MAJORS {
-            let one_number = dialect.read(&format!("{before}{major}{after}"));
-            let both = dialect.read(&format!("{before}{major}_0{after}"));
-            assert_eq!(one_number, both, "{row:?}");
-        }
-    }
-}
-
 /// All values of a field.
 fn values<T: FromStr>(field: Field) -> Vec<T> {
     let values = known_names(field).iter().map(|it| it.parse().ok().unwrap());
@@ -248,21 +234,6 @@ fn completion_fills_only_a_gap() {
 }
 
 #[test]
-fn given_object_formats_are_kept() {
-    use {Architecture::*, OperatingSystem::*};
-    let formats: Vec<BinaryFormat> = values(Field::BinaryFormat);
-    each_triple(|triple| {
-        let is_other =
-            matches!(triple.operating_system, Uefi | Cygwin) || matches!(triple.architecture, Wasm32 | Wasm64);
-        for &given in formats.iter().filter(|it| **it != BinaryFormat::Unknown) {
-            let has_given = TripleRef { binary_format: given, ..triple };
-            let may_differ = is_other && given == triple.binary_format;
-            assert!(has_given.object_format() == given || may_differ, "{triple} {given}");
-        }
-    });
-}
-
-#[test]
 fn each_rule_rewrites_an_unknown_part_once() {
     for &(place, text, form, names) in FIRST_RULES.iter().chain(LATER_RULES) {
         let version = match form {
@@ -276,17 +247,6 @@ fn each_rule_rewrites_an_unknown_part_once() {
         assert_eq!(fit.names, names, "{part} has an earlier rule");
         for name in names.split('-') {
             assert!(fit_alone(place, &format!("{name}{}", fit.kept_version())).is_none(), "{part}");
-        }
-    }
-}
-
-#[test]
-fn no_rule_fits_a_known_name() {
-    let fields = [Field::Architecture, Field::Vendor, Field::OperatingSystem, Field::Environment, Field::BinaryFormat];
-    let versioned = ["macosx10.7", "darwin20.1", "ios17.2.1", "arm64"];
-    for name in fields.iter().flat_map(|it| known_names(*it)).chain(&versioned) {
-        for place in [Place::First, Place::Second, Place::AfterFirst] {
-            assert!(fit_alone(place, name).is_none(), "{name}");
         }
     }
 }

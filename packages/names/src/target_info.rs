@@ -1,6 +1,6 @@
 //! What other tools and drivers say of a triple.
 use crate::{
-    driver, environment, rustc_cfg, ArmProfile, CLibrary, ChosenLibc, FloatAbi, LlvmTarget, MultiarchTuple, RustcCfg,
+    driver, rustc_cfg, shape, ArmProfile, CLibrary, ChosenLibc, FloatAbi, LlvmTarget, MultiarchTuple, RustcCfg,
     Signedness, TypeLayout, TypeSizes,
 };
 use target_lexicon::{BinaryFormat, DeploymentTarget, TripleRef};
@@ -101,7 +101,7 @@ pub trait TargetInfo<'a>: Copy + Into<TripleRef<'a>> {
     /// ```
     #[must_use]
     fn with_c_library(self, c_library: ChosenLibc) -> TripleRef<'a> {
-        environment::complete(&self.into(), c_library)
+        shape::complete(&self.into(), c_library)
     }
 
     /// The C library that the triple states: by its environment, or by a system that has only one.
@@ -136,6 +136,7 @@ pub trait TargetInfo<'a>: Copy + Into<TripleRef<'a>> {
     ///     ("wasm32-wasip1", BinaryFormat::Elf, BinaryFormat::Wasm),
     ///     ("x86_64-unknown-uefi", BinaryFormat::Elf, BinaryFormat::Coff),
     ///     ("x86_64-pc-cygwin-macho", BinaryFormat::Macho, BinaryFormat::Macho),
+    ///     ("wasm32-unknown-linux-coff", BinaryFormat::Coff, BinaryFormat::Coff),
     /// ] {
     ///     let triple = triple!(string);
     ///     assert_eq!((triple.binary_format, triple.object_format()), (upstreams, format), "{string}");

@@ -1,8 +1,8 @@
 //! The targets in any text.
-use crate::buffer::Buffer;
 use crate::evidence::{is_of_no_triple, only_machine, said};
 use crate::hints::LONGEST_PATH;
 use crate::meanings::meaning_with;
+use crate::name::Buffer;
 use crate::near::{ends_with_digit, is_of_tool, near};
 use crate::suggestions::{architecture_of, edits_between, known_names, vendor_suggestion, FIRST_RULES};
 use crate::{Dialect, Evidence, Meaning, Meant, NameOf, Said, Sense};

@@ -1,14 +1,13 @@
 //! From a name in one dialect to the name in another, and why there is none.
 //!
 //! This is the composition of reading, completing and writing, and the reason where a triple has no name.
-use crate::dialect::{has_version, is_written, text_in, Row, Sense, Way, MAX_LENGTH};
-use crate::shape::{is_another_target, usual_vendor, version};
+use crate::dialect::{has_version, is_written, Row, Sense, Way};
+use crate::shape::{is_another_target, library_and_abi, version};
 use crate::table::WRITE_REASONS;
 use crate::{ChosenLibc, Dialect, Name, NameError, TargetInfo, VersionOf, Versions, WriteError};
 use core::fmt;
 use target_lexicon::{
-    Architecture, ArmArchitecture, Environment, OperatingSystem, Riscv64Architecture, TripleRef, VendorRef,
-    X86_32Architecture,
+    Architecture, ArmArchitecture, Environment, OperatingSystem, Riscv64Architecture, TripleRef, X86_32Architecture,
 };
 
 impl WriteError {
@@ -268,43 +267,41 @@ impl Dialect {
     /// The reason, if a version of the system, or another name of it, has a name.
     fn why_system(self, triple: &TripleRef<'_>) -> Option<WriteError> {
         use OperatingSystem::{Darwin, MacOSX, Wasi};
-        let has = |system| self.has_name_with(triple, |it| it.operating_system = system);
-        let version = Some(version(11, 0));
+        let versioned = TripleRef { operating_system: MacOSX(Some(version(11, 0))), ..*triple };
         let is_preview_1 = |row: &Row| row.1 == "wasm32-wasip1" && is_written(row);
         let is_simulator = triple.environment == Environment::Sim;
-        let without = |it: &mut TripleRef<'_>| it.environment = Environment::Unknown;
+        let of_device = TripleRef { environment: Environment::Unknown, ..*triple };
         match triple.operating_system {
             Wasi if self.rows().iter().any(is_preview_1) => Some(WriteError::NeedsWasiVersion),
-            Darwin(_) | MacOSX(_) if has(MacOSX(version)) => Some(WriteError::NeedsVersion),
+            Darwin(_) | MacOSX(_) if self.write(versioned).is_some() => Some(WriteError::NeedsVersion),
             Wasi | Darwin(_) | MacOSX(_) => None,
-            _ if is_simulator && self.has_name_with(triple, without) => Some(WriteError::Simulator),
+            _ if is_simulator && self.write(of_device).is_some() => Some(WriteError::Simulator),
             _ => None,
         }
     }
 
-    /// The reason, by the machines and systems of the dialect's rows. Of the rows that are written one that begins as
-    /// the triple does says more than one that only has its system, and that more than one that only has its machine.
+    /// The reason, by the machines and systems of the dialect's rows. Of the rows that are written one with the machine and
+    /// the system says more than one that only has the system, and that more than one that only has the machine.
     fn why_rows(self, triple: &TripleRef<'_>) -> WriteError {
         let shape = self.shape(triple);
-        let (mut whole, mut bare) = ([0; MAX_LENGTH], [0; MAX_LENGTH]);
-        let whole = text_in(&mut whole, &shape);
-        // The usual vendor may depend on the machine.
-        let vendor = VendorRef::Known(usual_vendor(Architecture::X86_64, shape.operating_system));
-        let bare = text_in(&mut bare, &TripleRef { vendor, environment: Environment::Unknown, ..shape });
-        let system = after_machine(bare);
-        let machine = &bare[..bare.len() - system.len()];
+        let is_arm = |it: &TripleRef<'_>| matches!(it.architecture, Architecture::Arm(_));
         let mut why = WriteError::NoMachineOnAnySystem;
         for row in self.rows() {
-            let text = row.1.as_bytes();
+            let Ok(named) = TripleRef::from_str(row.1) else { continue };
+            let is_android = library_and_abi(named.environment).0 == "bionic";
+            let has_system = named.operating_system == shape.operating_system && !is_android;
+            let has_machine = named.architecture == shape.architecture;
             if is_written(row) {
                 why = match why {
                     WriteError::NoAbi => why,
-                    _ if has_system(text, system) && begins(text, bare) => WriteError::NoAbi,
-                    _ if has_system(text, system) => WriteError::NoMachine,
-                    WriteError::NoMachineOnAnySystem if has_machine(text, machine) => WriteError::NoSystem,
+                    _ if has_system && has_machine => WriteError::NoAbi,
+                    _ if has_system => WriteError::NoMachine,
+                    WriteError::NoMachineOnAnySystem if has_machine || is_arm(&named) && is_arm(&shape) => {
+                        WriteError::NoSystem
+                    }
                     _ => why,
                 };
-            } else if text == whole && row.2 == Way::Read {
+            } else if named == shape && row.2 == Way::Read {
                 let is_versioned = |major: &u16| has_version(*major, 0, row.0);
                 return if FIRST_NUMBERS.iter().any(is_versioned) && self.states_version(triple.into()) {
                     WriteError::NeedsVersion
@@ -321,13 +318,6 @@ impl Dialect {
         let has_versions = VersionOf::of(meant.triple).is_some();
         has_versions && FIRST_NUMBERS.iter().any(|it| self.name_of(meant, Some((*it, 0))).is_some())
     }
-
-    /// Whether a triple has a name with a change.
-    fn has_name_with(self, triple: &TripleRef<'_>, change: impl Fn(&mut TripleRef<'_>)) -> bool {
-        let mut other = *triple;
-        change(&mut other);
-        self.write(other).is_some()
-    }
 }
 
 /// What is meant, with a C library if one is said.
@@ -341,26 +331,3 @@ const ARMV7: Architecture = Architecture::Arm(ArmArchitecture::Armv7);
 
 /// First numbers of versions, of which each system and C library has one.
 const FIRST_NUMBERS: [u16; 4] = [1, 2, 11, 10240];
-
-/// The system of a triple's text, and what follows it, or the text if it is only a machine.
-fn after_machine(text: &[u8]) -> &[u8] {
-    let at = text.iter().position(|it| *it == b'-').unwrap_or(0);
-    &text[at..]
-}
-
-/// Whether a triple's text begins with this machine, or with another Arm of 32 bits.
-fn has_machine(text: &[u8], machine: &[u8]) -> bool {
-    let is_arm = |it: &[u8]| it.starts_with(b"arm") || it.starts_with(b"thumb");
-    begins(text, machine) || is_arm(text) && is_arm(machine)
-}
-
-/// Whether a triple's text has this system after its machine. Of most texts the last byte says that it hasn't.
-fn has_system(text: &[u8], system: &[u8]) -> bool {
-    let own = after_machine(text).get(..system.len());
-    own.map_or(false, |own| own.last() == system.last() && own == system)
-}
-
-/// Whether a triple's text begins with whole parts of another.
-fn begins(text: &[u8], parts: &[u8]) -> bool {
-    matches!(text.get(parts.len()), None | Some(b'-')) && text.starts_with(parts)
-}

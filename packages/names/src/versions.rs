@@ -114,10 +114,4 @@ impl Versions {
             _ => None,
         }
     }
-
-    /// Whether there is none.
-    #[must_use]
-    pub fn is_empty(&self) -> bool {
-        *self == Versions::default()
-    }
 }

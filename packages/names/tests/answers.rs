@@ -1,6 +1,6 @@
 //! How many triples have each answer, of each architecture, system and environment. `checks/compare` asks rustc, clang
 //! and LLVM of their targets: here a rule that changes any other answer changes a line of answers.txt.
-use std::collections::BTreeMap;
+use std::collections::{BTreeMap, BTreeSet};
 use target_lexicon::{Architecture, Environment, Field, OperatingSystem, TripleRef, VendorRef};
 use target_names::{known_names, TargetInfo, TypeLayout};
 
@@ -86,59 +86,27 @@ fn of_rustc(it: TripleRef<'_>) -> [(&'static str, String); 8] {
     ]
 }
 
-/// A line for each fact: its answers, and how many times each is given.
+/// A line for each answer of each fact: how many times it is given.
 fn counted<const N: usize>(all: impl Iterator<Item = [(&'static str, String); N]>) -> Vec<String> {
-    let mut counts = Vec::<(&str, BTreeMap<String, usize>)>::new();
-    for answers in all {
-        for (at, (fact, answer)) in answers.into_iter().enumerate() {
-            if counts.len() == at {
-                counts.push((fact, BTreeMap::new()));
-            }
-            *counts[at].1.entry(answer).or_default() += 1;
-        }
-    }
-    let line = |(fact, counts): (&str, BTreeMap<String, usize>)| {
-        let answers = counts.iter().map(|(answer, count)| format!(" {answer}={count}"));
-        fact.to_string() + &answers.collect::<String>()
-    };
-    counts.into_iter().map(line).collect()
+    let mut counts = BTreeMap::<(&str, String), usize>::new();
+    all.flatten().for_each(|answer| *counts.entry(answer).or_default() += 1);
+    counts.into_iter().map(|((fact, answer), count)| format!("{fact} {answer}={count}")).collect()
 }
 
 /// Compares lines with those of answers.txt for the same facts. With the variable ANSWERS it writes them there instead:
 /// `ANSWERS=write cargo test --test answers -- --test-threads=1`.
 fn compare(found: Vec<String>) {
-    let is_of = |fact: &str, line: &str| line.split(' ').next() == Some(fact);
-    let facts = |text: &str| text.replace("\n  ", " ").lines().map(String::from).collect::<Vec<_>>();
+    let path = concat!(env!("CARGO_MANIFEST_DIR"), "/tests/answers.txt");
+    let text = std::fs::read_to_string(path).unwrap();
+    let fact = |line: &str| line.split(' ').next().map(String::from);
+    let is_of = |line: &&str| found.iter().any(|it| fact(it) == fact(line));
     if std::env::var_os("ANSWERS").is_some() {
-        let path = concat!(env!("CARGO_MANIFEST_DIR"), "/tests/answers.txt");
-        let mut all = facts(&std::fs::read_to_string(path).unwrap());
-        for line in &mut all {
-            let now = found.iter().find(|it| is_of(it.split(' ').next().unwrap(), line));
-            *line = wrapped(now.unwrap_or(line));
-        }
-        return std::fs::write(path, all.join("\n") + "\n").unwrap();
+        let others = text.lines().filter(|it| !is_of(it)).map(String::from);
+        let all: BTreeSet<_> = others.chain(found.iter().cloned()).collect();
+        return std::fs::write(path, all.into_iter().map(|it| it + "\n").collect::<String>()).unwrap();
     }
-    let all = facts(include_str!("answers.txt"));
-    let differs = |line: &&String| !all.contains(line);
-    let differing: Vec<_> = found.iter().filter(differs).cloned().collect();
-    assert!(differing.is_empty(), "lines that answers.txt doesn't have:\n{}", differing.join("\n"));
-}
-
-/// A line in pieces of at most 120 columns.
-fn wrapped(line: &str) -> String {
-    let (mut text, mut width) = (String::new(), 0);
-    for word in line.split(' ') {
-        let length = 1 + word.chars().count();
-        let sign = match width {
-            0 => "",
-            _ if width + length > 121 => "\n  ",
-            _ => " ",
-        };
-        width = length + if sign == "\n  " { 2 } else { width };
-        text += sign;
-        text += word;
-    }
-    text
+    let differing: Vec<_> = found.iter().filter(|line| !text.lines().any(|it| it == *line)).collect();
+    assert!(differing.is_empty(), "lines that answers.txt doesn't have: {differing:#?}");
 }
 
 #[test]

@@ -93,27 +93,13 @@ proptest! {
     #![proptest_config(config(10_000))]
 
     #[test]
-    fn what_parses_without_a_custom_vendor_is_read_as_it_parses(text in any_text()) {
-        if let Some(it) = triple(&text).filter(|it| !it.vendor.is_custom()) {
-            prop_assert_eq!(read(&text), Ok(it));
-            prop_assert_eq!(changes(&text).count(), 0);
-        }
-    }
-
-    #[test]
-    fn a_string_without_changes_is_read_as_it_parses(text in spelled()) {
+    fn what_parses_without_a_custom_vendor_or_has_no_changes_is_read_as_it_parses(text in any_text()) {
         if changes(&text).next().is_none() {
             prop_assert_eq!(read(&text), TripleRef::from_str(&text));
         }
-    }
-
-    #[test]
-    fn changed_and_refused_parts_are_in_the_string(text in any_text()) {
-        for change in changes(&text) {
-            prop_assert_eq!(&text[change.part.range()], change.part.text);
-        }
-        if let Err(refusal) = read(&text) {
-            prop_assert_eq!(&text[refusal.range()], refusal.part.text);
+        if let Some(it) = triple(&text).filter(|it| !it.vendor.is_custom()) {
+            prop_assert_eq!(read(&text), Ok(it));
+            prop_assert_eq!(changes(&text).count(), 0);
         }
     }
 
@@ -183,6 +169,9 @@ proptest! {
     #[test]
     fn every_call_returns(text in any_text()) {
         let _ = (Evidence::of(&text).to_string(), meanings(&text).count());
+        for part in changes(&text).map(|it| it.part).chain(read(&text).err().map(|it| it.part)) {
+            prop_assert_eq!(&text[part.range()], part.text);
+        }
         for word in targets_in(&text) {
             prop_assert_eq!(&text[word.part.range()], word.part.text);
             let _ = word.is();

@@ -1,8 +1,10 @@
-//! Strings for LLVM of triples that rustc hasn't, and suggestions.
-use target_lexicon::{Field, Triple, TripleRef};
-use target_names::{
-    known_names, suggestion, visible, ChosenLibc, Dialect, Suggest as _, TargetInfo, VersionOf, Versions,
-};
+//! Strings for LLVM of triples that rustc hasn't, suggestions, and the table of targets, which `examples/targets.rs` writes.
+#[allow(dead_code)] // its main
+#[path = "../examples/targets.rs"]
+mod example;
+
+use target_lexicon::{Field, TripleRef};
+use target_names::{known_names, suggestion, visible, ChosenLibc, Dialect, Suggest as _, TargetInfo};
 
 /// The word, or `-` if there is none.
 fn shown(word: Option<impl ToString>) -> String {
@@ -152,20 +154,6 @@ fn an_environment_is_suggested_for_its_machines() {
 }
 
 #[test]
-#[allow(clippy::needless_borrows_for_generic_args)]
-fn calls_take_either_type_of_triple() {
-    let triple: Triple = "aarch64-apple-darwin".parse().unwrap();
-    let borrowed = TripleRef::from(&triple);
-    let name = Dialect::Go.write(&triple).unwrap();
-    assert_eq!(name, "darwin/arm64");
-    assert_eq!(Dialect::Go.write(borrowed), Some(name));
-    assert_eq!(Dialect::Go.write(&borrowed), Some(name));
-    assert_eq!(Dialect::Go.write_with(&triple, None), Ok(name));
-    let versions = Versions::none().with(VersionOf::MacOs, 11, 0);
-    assert_eq!(Dialect::Python.write_with_versions(&triple, None, &versions).unwrap(), "macosx_11_0_arm64");
-}
-
-#[test]
 fn an_error_shows_printable_ascii() {
     let shows = |shown: String| {
         assert!(shown.bytes().all(|it| (b' '..=b'~').contains(&it)), "{shown}");
@@ -185,4 +173,13 @@ fn an_error_shows_printable_ascii() {
         shows(format!("{c}").parse::<Dialect>().unwrap_err().to_string());
         shows(format!("{c}").parse::<ChosenLibc>().unwrap_err().to_string());
     }
+}
+
+#[test]
+fn each_target_is_what_the_library_answers() {
+    let lines = example::lines();
+    assert!(include_str!("../targets.csv").lines().eq(&lines), "run tools/write");
+    let is_described =
+        |it: &str| include_str!("../names.schema.json").contains(&format!("\"{it}\": {{ \"description\""));
+    assert!(lines[0].split(',').all(|it| is_described(it) || it.parse::<Dialect>().is_ok()));
 }

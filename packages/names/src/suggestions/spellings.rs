@@ -1,6 +1,6 @@
 //! Other tools' spellings of known names: the names of a part that a rule of `words` fits.
-use super::first_part;
 use super::words::{FIRST_RULES, LATER_RULES};
+use crate::reading::first_part;
 use core::str::FromStr as _;
 use target_lexicon::{BinaryFormat, DeploymentTarget};
 
