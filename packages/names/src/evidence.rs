@@ -177,6 +177,8 @@ impl<'a> Evidence<'a> {
     fn take(&mut self, word: Range<usize>, said: Option<&'static str>, before: Option<Kind>) -> Option<Kind> {
         let has_begun = !self.is_empty();
         let text: &'a str = &self.text[word.clone()];
+        // A version's name of macOS says it only in names of Homebrew: `arm64_tahoe`.
+        let said = said.filter(|it| *it != "darwin version" || before == Some(Kind::Machine));
         let joint = self.text[..word.start].bytes().next_back();
         if let (Some(Kind::Machine | Kind::System), "32" | "64") = (before, text) {
             self.width.add(if text == "32" { PointerWidth::U32 } else { PointerWidth::U64 });

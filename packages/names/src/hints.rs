@@ -209,10 +209,6 @@ impl<'a> Hints<'a> {
 
     /// The answer of [`Dialect::suggestion`]: a word that no triple has a meaning of stays.
     fn name_of(&self, dialect: Dialect) -> Option<&'static str> {
-        self.found(dialect).filter(|it| keeps_others(self.name, it))
-    }
-
-    fn found(&self, dialect: Dialect) -> Option<&'static str> {
         let (name, evidence) = (self.name, &self.evidence);
         if let Some(known) = dialect.name_in_other_letters(name) {
             return Some(known);
@@ -224,7 +220,7 @@ impl<'a> Hints<'a> {
         }
         if let Some(known) = dialect.name_inside(name) {
             let sense = dialect.sense(known).ok()?;
-            return evidence.allows(&sense).then_some(known);
+            return (evidence.allows(&sense) && keeps_others(name, known)).then_some(known);
         }
         let is_whole = || !has_number_of_abi(name) && level_spelled(name).is_empty();
         let spelled = read(name).ok().filter(|it| !it.vendor.is_custom() && is_whole());
@@ -242,7 +238,7 @@ impl<'a> Hints<'a> {
         let is_other = evidence.machine() == Said::Unsaid && name.split(SIGNS).any(|it| is_near_other(it, machine));
         let (machines, systems) = self.near();
         let is_near = machines.allows(machine) && (known.is_some() || systems.allows(system));
-        (is_near && !is_other).then_some(found)
+        (is_near && !is_other && keeps_others(name, found)).then_some(found)
     }
 
     /// The nearest name that contradicts nothing which the words say.

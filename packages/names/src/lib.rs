@@ -57,7 +57,6 @@ mod target_info;
 mod text;
 mod translation;
 mod verdict;
-mod versions;
 
 pub use dialect::{NameError, Sense};
 pub use driver::{MultiarchTuple, TypeLayout, TypeSizes};
@@ -76,9 +75,8 @@ pub use suggestions::{
 pub use table::{ArmProfile, CLibrary, ChosenLibc, Dialect, FloatAbi, Signedness, WriteError};
 pub use target_info::TargetInfo;
 pub use text::{targets_in, words_in, TargetsIn, Word, WordIs};
-pub use translation::TranslateError;
+pub use translation::{TranslateError, VersionOf, Versions};
 pub use verdict::Verdict;
-pub use versions::{VersionOf, Versions};
 
 #[cfg(feature = "std")]
 mod errors {

@@ -51,9 +51,7 @@ impl Dialect {
     /// assert_eq!(Dialect::Rpm.read_loosely("foo-1-1.x86_64_v4.rpm").unwrap().level, "v4");
     /// ```
     pub fn read_loosely(self, text: &str) -> Result<Sense<'static>, NameError> {
-        let in_file = self.read_file(text);
-        let found = in_file.or_else(|| self.read_version_of_glibc(text));
-        let found = found.unwrap_or_else(|| self.sense(text));
+        let found = self.read_file(text).unwrap_or_else(|| self.sense(text));
         let is_unknown = match found {
             Err(NameError::WithoutTriple(why)) => OF_CONFIG_SUB.contains(&why),
             found => found == Err(NameError::Unknown),
@@ -72,6 +70,7 @@ impl Dialect {
             Dialect::Go => self.read_port(text),
             Dialect::Gnu => self.read_compiler(text),
             Dialect::Zig => self.read_versions(text),
+            Dialect::Rust => self.read_version_of_glibc(text),
             Dialect::Debian => self.read_uclibc(text).or_else(|| self.read_architecture(text)),
             _ => None,
         }
@@ -93,7 +92,7 @@ impl Dialect {
         let is_archive = matches!(self, Dialect::Go | Dialect::Node | Dialect::Rust);
         match found {
             Ok(it) if is_archive => Evidence::of(file).names(&it).then_some(Ok(it)),
-            Ok(it) => package_of(&file[..start], it).map(Ok),
+            Ok(it) => self.package_of(&file[..start], it).map(Ok),
             Err(_) => Some(found),
         }
     }
@@ -202,9 +201,6 @@ impl Dialect {
 
     /// A target of rustc with the version of glibc, as cargo-zigbuild takes it.
     fn read_version_of_glibc(self, text: &str) -> Option<Found> {
-        if self != Dialect::Rust {
-            return None;
-        }
         let (target, minor) = text.rsplit_once(".2.")?;
         let (_, environment) = target.rsplit_once('-')?;
         let has_glibc = environment.starts_with("gnu") && is_version(minor);
@@ -307,6 +303,33 @@ impl Dialect {
             Sense { triple, ..it }
         }))
     }
+
+    /// What a package is for whose file has this before its architecture: of the machine's level if words say one, as in
+    /// openSUSE's `libz1-x86-64-v3`. A system or a distribution in its name says nothing, as in `netcat-openbsd`. `None` if
+    /// its name says another C library, or its version a system or that. Raspbian's Arm is older than Debian's, and Termux
+    /// has the name of Debian's oldest.
+    fn package_of(self, before: &str, sense: Sense<'static>) -> Option<Sense<'static>> {
+        let dashes = || before.rmatch_indices('-').nth(1).map(|it| it.0);
+        let end = if self == Dialect::Debian { before.find('_') } else { dashes() };
+        let (name, version) = before.split_at(end.unwrap_or(0));
+        let (evidence, triple) = (Evidence::of(before), &sense.triple);
+        let (name, version) = (Evidence::of(name), Evidence::of(version));
+        let is_arm = matches!(triple.architecture, Architecture::Arm(_));
+        let is_v7 = triple.architecture == Architecture::Arm(ArmArchitecture::Armv7);
+        let armv6 = Architecture::Arm(ArmArchitecture::Armv6);
+        let is_of_raspbian = |word: &str| {
+            let word = word.trim_end_matches(|it: char| it.is_ascii_digit());
+            ["raspbian", "rpi", "rpt"].contains(&word)
+        };
+        let mut words = before.split(|it: char| !it.is_ascii_alphanumeric());
+        let may_be = version.allows_system(triple)
+            && version.allows_library(triple)
+            && (name.system != Said::Unsaid || name.allows_library(triple))
+            && !(is_arm && FloatAbi::of(triple).is_none())
+            && !(is_v7 && (words.any(is_of_raspbian) || evidence.machine() == Said::One(armv6)));
+        let level = if sense.level.is_empty() { evidence.level_of(triple.architecture) } else { sense.level };
+        may_be.then_some(Sense { level, ..sense })
+    }
 }
 
 /// What a name within a text means.
@@ -331,28 +354,6 @@ const TOOLS: &str = "gcc-ar gcc-nm gcc-ranlib gcov-dump gcov-tool lto-dump gcc g
 /// What `uname` prints after the machine.
 const AFTER_MACHINES: [&str; 10] =
     ["GNU/Linux", "Linux", "GNU", "Haiku", "illumos", "Android", "Toybox", "Msys", "Cygwin", "unknown"];
-
-/// What a package is for whose file has this before its architecture: of the machine's level if words say one, as in openSUSE's
-/// `libz1-x86-64-v3`. `None` if they say something else: a system, unless they name a machine too, for which the package then has a
-/// tool, or a C library. Raspbian's Arm is older than Debian's, and Termux has the name of Debian's oldest.
-fn package_of(before: &str, sense: Sense<'static>) -> Option<Sense<'static>> {
-    let (evidence, triple) = (Evidence::of(before), &sense.triple);
-    let is_tool = evidence.machine() != Said::Unsaid;
-    let is_arm = matches!(triple.architecture, Architecture::Arm(_));
-    let is_v7 = triple.architecture == Architecture::Arm(ArmArchitecture::Armv7);
-    let armv6 = Architecture::Arm(ArmArchitecture::Armv6);
-    let is_of_raspbian = |word: &str| {
-        let word = word.trim_end_matches(|it: char| it.is_ascii_digit());
-        ["raspbian", "rpi", "rpt"].contains(&word)
-    };
-    let mut words = before.split(|it: char| !it.is_ascii_alphanumeric());
-    let may_be = (is_tool || evidence.system == Said::One("none") || evidence.allows_system(triple))
-        && evidence.allows_library(triple)
-        && !(is_arm && FloatAbi::of(triple).is_none())
-        && !(is_v7 && (words.any(is_of_raspbian) || evidence.machine() == Said::One(armv6)));
-    let level = if sense.level.is_empty() { evidence.level_of(triple.architecture) } else { sense.level };
-    may_be.then_some(Sense { level, ..sense })
-}
 
 /// Whether a text is numbers with dots between them.
 fn is_version(text: &str) -> bool {

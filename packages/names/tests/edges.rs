@@ -49,7 +49,8 @@ its words name x86_64-unknown-linux=x86_64-linux, gnu-make-linux-x64, softfp-gam
     x86-64-v3.1-linux, x64-linux-none, x86_64.1-linux, linux-x64-r5, linux-x64-V5, eGPU-linux-x64, GNULinux-x64, \
     linux-x64-v12
 it names nothing known here=foo
-it names several machines=linux-armv6-armv7, i586-i686-linux, linuxmusl_ppc64, linux-ppc64-gibc, x86_64-universal, x86_64-arm64-mips-linux, multi-arch-linux, \
+it names several machines=linux-armv6-armv7, i586-i686-linux, linuxmusl_ppc64, linux-ppc64-gibc, x86_64-universal, \
+    x86_64-arm64-mips-linux, multi-arch-linux, \
     openwrt-sdk-23.05_musl.Linux-x86_64
 it names a machine that no triple has=arm64e-linux
 it names an Arm of 32 or of 64 bits, and no system=arm
@@ -66,6 +67,7 @@ it names several systems=x64-linux-windows, cmake-4.0.0-sunos-sparc64.tar.gz
 its words say arm, soft-float, linux, gnu; here nobody knows `__`=arm-linux-gnueabi__
 its words say 64 bits, linux, and no single machine known here=linux-arm-64bit
 its words say x86_64, and no system=x64
+its words say aarch64, and no system=sonoma-arm64.zip
 its words say powerpc64le, and no system=elf64-powerpcle
 its words say x86_64, and no system known here=x64-foo
 its words say x86_64, its level v3, gnu, and no system=x86-64-v3--glibc--stable-2024.02-1.tar.xz
@@ -234,17 +236,22 @@ aarch64-pc-windows-gnullvm=uname CLANGARM64_NT-10.0-22631-ARM64 aarch64
 i686-unknown-linux=uname Linux a 2.6.32-754.el6.i686 #1 SMP i686 i686 i386 GNU/Linux
 aarch64-linux-android=uname Linux localhost 4.14.1 aarch64 Android
 x86_64-unknown-freebsd=uname FreeBSD a 13.2 b amd64 Android
-x86_64-unknown-linux=uname Linux arm 6.1 x86_64 GNU/Linux, go tool-linux-amd64.tar.gz, go tool-linux-amd64.tar.bz2, node tool-linux-x64.tgz, \
+x86_64-unknown-linux=uname Linux arm 6.1 x86_64 GNU/Linux, go tool-linux-amd64.tar.gz, go tool-linux-amd64.tar.bz2, \
+    node tool-linux-x64.tgz, \
     uname Linux-x86_64, uname Linux_x86_64, uname  Linux x86_64, uname  Linux-x86_64 , uname Linux,x86_64
-x86_64-unknown-linux-gnu=node @rollup/rollup-linux-x64-gnu, rust tool-x86_64-unknown-linux-gnu.tar.zst, debian binutils-mingw-w64-i686_2_amd64.deb, \
+x86_64-unknown-linux-gnu=debian hello-windows_1_amd64.deb, debian netcat-openbsd_1.219-1_amd64.deb, \
+    debian alpine_2.26_amd64.deb, rpm netcat-openbsd-1.226-1.x86_64.rpm, pacman gnu-efi-3.0.18-3-x86_64.pkg.tar.zst, \
+    node @rollup/rollup-linux-x64-gnu, rust tool-x86_64-unknown-linux-gnu.tar.zst, \
+    debian binutils-mingw-w64-i686_2_amd64.deb, \
     debian newlib-none_1_amd64.deb, debian amd64.deb, debian dc:amd64, debian g++:amd64, \
     zig x86_64-linux.5.10-gnu.2.31, pacman zlib-1-2-x86_64.pkg.tar.zst, debian gcc-x86-64-linux-gnu_12.2_amd64.deb
 x86_64-pc-windows-msvc=rust tool-x86_64-pc-windows-msvc.exe
 thumbv7neon-unknown-linux-musleabihf=rust tool-1.2-thumbv7neon-unknown-linux-musleabihf.tar.gz
 armv7-unknown-linux-musleabihf=dotnet dotnet-sdk-8.0-linux-musl-arm.tar.gz
-!=debian linux-image_1.rpi_armhf.deb, debian linux-image_1+rpt2_armhf.deb, debian hello-windows_1_amd64.deb, \
+!=debian linux-image_1.rpi_armhf.deb, debian linux-image_1+rpt2_armhf.deb, \
     debian x_1_arm.deb, go linux_armhf, go linux_386_softfloat, debian a:amd64, debian Libc:amd64, debian linux:amd64, \
-    go tool-amd64.zip, debian raspbian-x_1_armhf.deb, gnu gcc, gnu arm-gcc, gnu aarch64-linux-gnu-foo, \
+    go tool-amd64.zip, rpm gcc-8-1.aix7.2.x86_64.rpm, debian raspbian-x_1_armhf.deb, gnu gcc, gnu arm-gcc, \
+    gnu aarch64-linux-gnu-foo, \
     rust x86_64-unknown-linux-musl.2.17, rust x86_64-unknown-linux-gnu.2.x, zig x86_64-linux.foo-gnu, \
     zig x86_64-linux.5.10...foo-gnu, python manylinux_2_17_x86_64.musllinux_1_2_x86_64, oci windows(10.0.*)/amd64, \
     oci linux(10.0)/amd64, oci windows(x)/amd64, go linux-i386-x86_64, oci linux/armhf/foo, \
@@ -258,7 +265,8 @@ armv7-unknown-linux-gnueabihf=debian hello_1_armhf.deb, node @parcel/watcher-lin
 i686-unknown-linux-gnu=debian libc6:i386
 !several machines=go tool_darwin_all.tar.gz, python macosx_11_0_arm64.macosx_10_9_universal2
 !Plan 9 is no known name=go tool-plan9/amd64.zip, go tool-plan9-amd64.zip
-aarch64-unknown-linux-gnu=debian linux-image-amd64_6.1_arm64.deb, gnu /usr/bin/aarch64-linux-gnu-gcc-12, rpm zlib-1.2-3.fc39.aarch64.rpm
+aarch64-unknown-linux-gnu=debian linux-image-amd64_6.1_arm64.deb, gnu /usr/bin/aarch64-linux-gnu-gcc-12, \
+    rpm zlib-1.2-3.fc39.aarch64.rpm
 x86_64-pc-windows-gnu=gnu C:\\x\\x86_64-w64-mingw32-gcc.exe, gnu x86_64-w64-mingw32-gcc-12.2-posix, \
     zig x86_64-windows.win10...win11-gnu, uname MINGW64_NT-6.1 x86_64, \
     uname MINGW64_NT-10.0-26100-ARM64 x86_64
@@ -366,7 +374,8 @@ const SUGGESTED: &str = "\
     debian powerpcel, zig x86-lynx, apk arm-vx7, debian arm-elf, node x86-64, gnu x86-64, rust mipsel-sony-psx, \
     debian powerpcle, gnu arceb-linux-gnu, node linux-x32, debian armv6, rust aarch64-apple-ios-iso, node openuse-x64, \
     conda os-arm64, gnu armb-linux-gnueabi, zig arme-linux-gnueabi, debian spirv64, \
-    go linux/wasm, oci linux/amd6/v4, rpm i486-linux-gnu, nix i486-linux, gnu x86_64-unknown-wali, zig archlinux, rust x86_64-unknown-threadx, node linux-rv32, gnu mic-linux-gnu, node wsl-x64, node wii-x64
+    go linux/wasm, oci linux/amd6/v4, rpm i486-linux-gnu, nix i486-linux, gnu x86_64-unknown-wali, zig archlinux, \
+    rust x86_64-unknown-threadx, node linux-rv32, gnu mic-linux-gnu, node wsl-x64, node wii-x64
 linux/arm64=go nilux/arm64
 opensuse-x64=dotnet openuse-x64
 aix/ppc64=go aix/ppc46
@@ -460,20 +469,10 @@ fn names_are_suggested_for_unknown_ones() {
 }
 
 #[test]
-fn a_name_of_the_same_tool_stays_if_it_says_more() {
-    let same = |name| Dialect::Gnu.translate(name, None, Dialect::Gnu).unwrap();
-    assert_eq!(same("armv7-foo-linux-gnueabihf"), "armv7-foo-linux-gnueabihf");
-    assert_eq!(same("i686-pc-netbsd"), "i486--netbsdelf");
-    assert_eq!(same("armv7-aaaaaaaaaaaaaaaaaaaaaaaaaaaa-linux-gnueabihf"), "arm-linux-gnueabihf");
-}
-
-#[test]
 fn a_vendor_that_is_an_environment_is_one_of_the_machine() {
     let suggested = |text| vendor_suggestion(triple(text)).map(|it| it.to_string());
     assert_eq!(suggested("armv7-gnueabihf13").as_deref(), Some("gnueabihf"));
     assert_eq!(suggested("x86_64-gnueabihf13"), None);
     // Any machine may have it.
     assert_eq!(suggested("unknown-gnueabihf13").as_deref(), Some("gnueabihf"));
-    let linux = vendor_suggestion(triple("x86_64-linx")).unwrap();
-    assert!(linux == "linux" && linux == *"linux" && linux != "lin" && linux != *"linuxx");
 }
