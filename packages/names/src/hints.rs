@@ -393,7 +393,11 @@ impl<'a> Meant<'a> {
         }
         let names = Dialect::ALL.iter().filter_map(|it| hints.name_of(*it));
         let part = TextPart { text: word, start: 0 };
-        let of_tools = names.filter(|name| !word.contains(name));
+        // Another tool may have the name with the signs of the word: `linux/arm64`, and not `linux-arm64`.
+        let of_tools = names.filter(|name| !word.contains(name)).flat_map(|name| {
+            let rows = Dialect::ALL.iter().flat_map(move |it| it.rows_of(name.len()..name.len() + 1));
+            rows.map(|row| row.0).filter(move |it| joined(it) == joined(name))
+        });
         let of_tools = of_tools.map(|name| Meant { word, part, suggestion: Suggestion::of(name) });
         of_triple.into_iter().chain(of_tools).min_by_key(Meant::edits)
     }

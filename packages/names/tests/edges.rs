@@ -58,7 +58,6 @@ its words name arm-unknown-linux=linux-arm-32bit
 its words name armv8-unknown-linux=armv8-32-linux
 its words name armv8-unknown-linux-gnueabihf=linux-armv8-gnueabihf
 its words name arm-unknown-linux-eabihf of the level v7=linux-armhf-v7
-its words name arm-unknown-linux-eabi of the level v6=linux-armel-v6
 its words name i686-unknown-linux-musl=alpine-i686
 its words name arm-unknown-linux-musleabi=alpine-linux-arm32-softfloat
 its words say linux, and no single machine known here=linux, linux-x86_w64, linux-x86_6f, \

@@ -100,7 +100,6 @@ fn targets_of_rustc_are_themselves() {
     // The targets of rustc's list, which `checks/compare elsewhere` compares with the table: without what older ones had.
     let rows = include_str!("../names.csv").lines();
     let rows = rows.filter(|it| !it.contains("rustc's name ") && !it.contains("several"));
-    // The row that only says how a triple is written comes after that of the same name.
     let targets: BTreeSet<_> = rows.filter_map(|it| it.strip_prefix("rust,")?.split(',').next()).collect();
     for target in targets {
         let found = Dialect::Rust.read(target);
