@@ -322,7 +322,8 @@ static void try_translation() {
   EXPECT(Triple::meanings("linux/amd64/v3")[0].level == "v3" && armhf[0].level.empty() && plan9[0].level.empty());
   EXPECT(plan9.size() == 1 && !plan9[0].triple && plan9[0].dialect == Dialect::Go &&
       plan9[0].reason == "Plan 9 is no known name");
-  EXPECT(Triple::meanings("x64-osx")[0].by_words && !Triple::meanings("x64-osx")[0].dialect && !armhf[0].by_words);
+  auto osx = Triple::meanings("x64-osx").back();
+  EXPECT(osx.by_words && !osx.dialect && osx.triple == parsed("x86_64-apple-darwin") && !armhf[0].by_words);
   EXPECT(!avr.front().dialect && avr.front().triple == parsed("avr-none") && avr.front().reason.empty() &&
       Triple::meanings("foo/bar").empty());
 }

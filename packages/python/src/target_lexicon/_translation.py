@@ -99,8 +99,8 @@ def meanings(text: str) -> List[Meaning]:
     [('debian', 'armv7-unknown-linux-gnueabihf'), ('apk', 'armv6-unknown-linux-musleabihf')]
     >>> [(it.dialect, it.triple, it.reason) for it in meanings("plan9/amd64")]
     [(Dialect.GO, None, 'Plan 9 is no known name')]
-    >>> [(str(it.triple), it.by_words) for it in meanings("x64-osx")]
-    [('x86_64-apple-darwin', True)]
+    >>> str(meanings("x64-osx")[-1].triple), meanings("x64-osx")[-1].by_words
+    ('x86_64-apple-darwin', True)
 
     The list is empty if nobody means a target by the string.
     """
