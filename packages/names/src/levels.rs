@@ -64,7 +64,7 @@ pub(crate) fn level_of((architecture, word): Machine<'_>) -> (Architecture, u32)
         X86_64h => (X86_64, first(3)),
         X86_64 => (X86_64, first(1)),
         Sparcv9 => (Sparc64, 0),
-        Clever(_) => (Clever(CleverArchitecture::Clever), 0),
+        Clever(it) => (Clever(CleverArchitecture::Clever), u32::from(it != CleverArchitecture::Clever)),
         Powerpc64le => (architecture, first(8)),
         Riscv32(_) => (Riscv32(Bits32::Riscv32), extensions(architecture.name())),
         Riscv64(Bits64::Riscv64a23) => (Riscv64(Bits64::Riscv64), first(8)),

@@ -125,7 +125,7 @@ fn may_be_of_msys2(text: &str) -> bool {
     };
     let evidence = Evidence::of(text);
     match evidence.system {
-        Said::Unsaid => ["-x86_64", "-i686"].iter().any(|it| file.ends_with(it)),
+        Said::Unsaid | Said::One("other") => ["-x86_64", "-i686"].iter().any(|it| file.ends_with(it)),
         system => system == Said::One("windows") && evidence.has_machine() && file.ends_with("-any"),
     }
 }
