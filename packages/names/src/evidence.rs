@@ -143,8 +143,9 @@ impl<'a> Evidence<'a> {
                 continue;
             }
             let mut after = words.clone();
+            let is_of_machine = before == Some(Kind::Machine) && &text[word.clone()] == "w64"; // `x86_w64`
             let (said, last) = match after.next() {
-                Some(next) => match said_by_pair(text, &word, &next) {
+                Some(next) => match said_by_pair(text, &word, &next).filter(|_| !is_of_machine) {
                     Some(said) => {
                         words = after;
                         (Some(said), next)

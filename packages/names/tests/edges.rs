@@ -60,13 +60,12 @@ its words name armv8-unknown-linux-gnueabihf=linux-armv8-gnueabihf
 its words name arm-unknown-linux-eabihf of the level v7=linux-armhf-v7
 its words name i686-unknown-linux-musl=alpine-i686
 its words name arm-unknown-linux-musleabi=alpine-linux-arm32-softfloat
-its words say linux, and no single machine known here=linux, linux-x86_w64, linux-x86_6f, \
+its words say linux, and no single machine known here=linux, linux-x86_w64, linux-x86_w64_clang, linux-x86_6f, \
     arm-v7.1-linux, mip_s64eb-linux, powerp_c-4-linux
 it names several systems=x64-linux-windows, cmake-4.0.0-sunos-sparc64.tar.gz
 its words say arm, soft-float, linux, gnu; here nobody knows `__`=arm-linux-gnueabi__
 its words say 64 bits, linux, and no single machine known here=linux-arm-64bit
-its words say x86_64, and no system=x64
-its words say aarch64, and no system=sonoma-arm64.zip
+its words say x86_64, and no system=x64, sonoma-x64.zip
 its words say powerpc64le, and no system=elf64-powerpcle
 its words say x86_64, and no system known here=x64-foo
 its words say x86_64, its level v3, gnu, and no system=x86-64-v3--glibc--stable-2024.02-1.tar.xz
