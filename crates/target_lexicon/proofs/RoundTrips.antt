@@ -356,10 +356,7 @@ module _ (round : RoundIsNormalStep) where
 
   -- a triple comes back exactly outside the exceptions
   pub fixed_exactly_outside : FixedExactlyOutsideExceptions
-  fixed_exactly_outside t range = (
-    λ back. let is = back-outside t range back in plain-exception t is.0 is.1,
-    λ found. let is = none-plain_outside t found in outside-back t range is.0 is.1,
-  )
+  fixed_exactly_outside t range = search (rules, back-outside, plain-exception, none-plain_outside, outside-back)
 
 -- A second step changes no triple.
 

@@ -267,20 +267,11 @@ part-in text before p rest begin at is = grind (arith, common_steps)
 -- the first of the parts, and those after it
 first-in : (text : List ℕ) (begin : ℕ) (p : List ℕ) (ps : List (List ℕ)) → AreAt text begin (p ∷ ps)
     → IsInString text (part_from begin p) × AreAt text (begin + length p + 1) ps
-first-in text begin p [] (before, at, is) =
-    (part-in text before p [] begin at (is ∙ ap (λ (k : List ℕ). before ++ k) (sym (append-nil p))), tt)
-first-in text begin p (q ∷ ps) (before, at, is) =
-    let rest = join_with_byte dash (q ∷ ps) in
-    let one = length-append before p in
-    let two = length-append (before ++ p) (dash ∷ []) in (
-      part-in text before p (dash ∷ rest) begin at is,
-      (
-        (before ++ p) ++ (dash ∷ []),
-        omega (arith, one, two, at),
-        is ∙ sym (append_assoc before p (dash ∷ rest))
-            ∙ sym (append_assoc (before ++ p) (dash ∷ []) rest),
-      ),
-    )
+first-in text begin p [] (before, at, is) = (part-in text before p [] begin at (search (rules, append-nil)), tt)
+first-in text begin p (q ∷ ps) (before, at, is) = (
+  part-in text before p (dash ∷ join_with_byte dash (q ∷ ps)) begin at is,
+  ((before ++ p) ++ (dash ∷ []), grind (arith, common_steps), grind (arith, common_steps)),
+)
 
 abbrev AreIn : List ℕ → List PlacedPart → Type 0
 AreIn text [] = Unit {0}
@@ -316,11 +307,9 @@ all-sources-in text unfilled ps gs none are = grind (arith, source-in)
 pub refused-in : (text : List ℕ) (x : Refusal) (s : SourceValues) (q : PlacedPart) → IsRefusedAfter text x s q
     → AreInString text s × IsInString text q
 refused-in text x s q (parts, of_text, after) =
-    let are = placed-in text parts of_text in (
-      subst (AreInString text) (sym after.sources)
-          (all-sources-in text NotGiven (placed_from 0 parts) after.fields tt are),
-      get-in text (placed_from 0 parts) after.refusal_holds.count q are after.refused,
-    )
+    let are = placed-in text parts of_text in
+    let all = all-sources-in text NotGiven (placed_from 0 parts) after.fields tt are in
+    (rw after.sources all, get-in text (placed_from 0 parts) after.refusal_holds.count q are after.refused)
 
 -- The parts of a string are read one after the other. Where they end, and at a part that fills no field, this gives
 -- what the string reads as, or how it is refused.

@@ -5,10 +5,10 @@ pub use Rattle.lexicon_fields.{proofs.Names.NamesAreRead, proofs.Names.names_are
 pub use Rattle.lexicon_fields.{proofs.Values.bare_hash_injective, specs.declared.known_vendor.KnownVendor.KnownVendor}
 pub use Rattle.serde_json.specs.Data.{Items}
 pub use Rattle.serde_json.specs.{Find.get_item, View.items_of, View.items_view, View.view, declared.value.Value.Value}
-pub use Rattle.std.proofs.Common.{All, Err, inl, inr, map, not, refl, suc, sym, take, true, zero, ◌&&◌, ◌++◌, ◌+◌, ◌||◌}
-pub use Rattle.std.proofs.Common.{Bool, List, None, Some, arith, codes, cond, drop, false, length, nat_eq, rules, subst}
-pub use Rattle.std.proofs.Common.{Ok, Option, Result, add-one, append_assoc, get_or, if◌then◌else◌, is_some, true≢false}
-pub use Rattle.std.proofs.Common.{[], ap, ℕ, ◌-◌, ◌<◌, ◌^◌, ◌↔◌, ◌∙◌, ◌∷◌, ◌≡◌, ◌≢◌, ◌≤◌, ◌⊎◌}
+pub use Rattle.std.proofs.Common.{All, Err, inl, inr, map, not, suc, sym, true, zero, ◌&&◌, ◌++◌, ◌+◌, ◌-◌, ◌<◌, ◌||◌}
+pub use Rattle.std.proofs.Common.{Bool, List, None, Ok, Some, arith, codes, cond, drop, false, refl, rules, subst, take}
+pub use Rattle.std.proofs.Common.{Option, Result, add-one, get_or, if◌then◌else◌, is_some, length, nat_eq, true≢false}
+pub use Rattle.std.proofs.Common.{[], ap, ℕ, ◌^◌, ◌↔◌, ◌∙◌, ◌∷◌, ◌≡◌, ◌≢◌, ◌≤◌, ◌⊎◌}
 pub use Rattle.std.proofs.Output.{has_written_styled_append, has_written_styled_nil, has_written_styled_of_eq}
 pub use Rattle.std.proofs.lemmas.Bool.{and_parts, cases_Bool, eq-eqb, false≢true, ne_eqb, not-false, not-true}
 pub use Rattle.std.proofs.lemmas.List.Splits.{join_with_byte-slice_split, length-slice_split, slice_split_first}
