@@ -1,12 +1,15 @@
 """Writes why the functions of rustc's MIR are those of the source, and the theorems of the source about them.
 Coq checks the proofs. That the statements are those of the source's theorems is trusted, as PROOF.md says."""
+import contextlib
 import re
+import subprocess
 
 import compiled
 import derived
 import shipped
 from reading import Untranslated
 
+TRIED = "1.95"  # the version of rustc whose MIR was read; another one's may have other forms
 HEAD = """(* Written by checks/theorem. *)
 Require Import Kit Specs Rust Std Code Configured Mir Bridge.
 Ltac simp ::= cbv beta iota zeta delta [fst snd negb andb orb set_at shr_in result_eqb result_eq
@@ -161,7 +164,25 @@ class Bridge:
                f"exact {' '.join(proof)} {of}{')' * len(proof)}. Qed."
 
 
-@compiled.forms()
+def version():
+    return subprocess.run(["rustc", "--version"], cwd="/", capture_output=True, text=True).stdout.strip()
+
+
+@contextlib.contextmanager
+def forms():
+    """A form of rustc's that isn't known is an error; one of another version is why nothing is proved of MIR."""
+    try:
+        yield
+    except compiled.NoCompiler:
+        raise
+    except (Untranslated, AttributeError, IndexError, KeyError, TypeError, ValueError) as why:
+        reason = str(why) if isinstance(why, Untranslated) else f"a form that isn't known: {why!r}"
+        if version().startswith(f"rustc {TRIED}."):
+            raise Untranslated(reason) from None
+        raise compiled.NoCompiler(f"{reason}, in what {version()} writes, while the form of {TRIED} is read") from None
+
+
+@forms()
 def write(root, folder, translated=None):
     """Writes Mir.v, Same_mir.v, Compiled.v and Derived.v. Returns the theorems. The types are those of the translated
     source, which is this one if it isn't said."""

@@ -1,5 +1,4 @@
 """Lets rustc write what it compiles, its MIR, in each configuration of the crate, and reads that."""
-import contextlib
 import itertools
 import os
 import re
@@ -14,7 +13,6 @@ from mir_grammar import ITEM, Unknown, plain, read_hir
 from reading import Untranslated
 
 HERE = Path(__file__).parent
-TRIED = "1.95"  # the version of rustc whose MIR was read; another one's may have other forms
 CRATES = {"src/lib.rs": ("--crate-name=target_lexicon", "--crate-type=lib"),
           "build.rs": ("--crate-name=build_script_build",)}
 # A constant that decides stays in the function that it decides about, as it may depend on the target or the host.
@@ -41,10 +39,10 @@ LEFT_OUT = {
 # What may decide what is compiled: the features that are tried, and what no build of a user has.
 NAME = r'(?:not\()?(?:feature = "(?:alloc|std)"|core_error|docsrs|doctest|test)\)?'
 CONDITION = rf"#!?\[cfg(_attr)?\((?:(?:all|any)\()?{NAME}(?:, {NAME})*\)?(?(1), (?:(?!\bcfg)[\w(), =\"])+)\)\]"
-# The other ways to compile the main configuration: features, whether as for an older rustc, and flags.
-OTHERS = [(["alloc"], True, "-Cdebug-assertions=off"), (["alloc", "std", "serde_support"], False, "-Cdebug-assertions=off"),
-          (["alloc", "std"], False), (["alloc", "std"], True, "-Cdebug-assertions=off"),
-          (["alloc", "std", "serde_support"], True, "-Cdebug-assertions=off")]
+# The ways to compile with `alloc`, of which the first is the main one: all features that Cargo.toml lets one have, and
+# whether as for an older rustc.
+WAYS = [(["alloc", *more], older) for more in ([], ["std"], ["std", "serde_support"]) for older in (False, True)]
+RELEASE = "-Cdebug-assertions=off"
 # The case of an owned name of a vendor in a function, which isn't there without the feature `alloc`.
 OWNED = r"\n\| \(RsCustomVendor__Owned x'\d+\) =>\n[^|]*?(?=\n\|| end)"
 
@@ -68,7 +66,8 @@ def rustc(folder, features, older=False, *words, root="src/lib.rs"):
                             f"-o{serde}", HERE / "serde.rs"], cwd="/", check=True)
             words.append(f"--extern=serde={serde}")
         for of in ([f"--emit=mir={out}/mir,dep-info={out}/read", f"--out-dir={out}"],
-                   ["-Zunpretty=hir-tree", f"-o{out}/hir"], ["-Zunpretty=expanded", "-Ztrace-macros", f"-o{out}/expanded"]):
+                   ["-Zunpretty=hir-tree", f"-o{out}/hir"],
+                   ["-Zunpretty=expanded", f"-o{out}/expanded", "-Ztrace-macros"]):
             ran = subprocess.run(["rustc", *words, *of], cwd="/", capture_output=True, text=True,
                                  env={**os.environ, "RUSTC_BOOTSTRAP": "1", "OUT_DIR": out})
             if ran.returncode or "is unknown and will be ignored" in ran.stderr:  # a pass of MIR
@@ -109,11 +108,11 @@ def all_of(crate):
 def same_without_alloc(root, crate, known):
     """That each function without the feature `alloc` is written as with it, but for owned names of vendors."""
     folder = root.resolve() / "packages/rust"
-    written = rustc(folder, [])
-    main = compared(*written)
-    same(main, rustc(folder, [], True, "-Cdebug-assertions=off"), "without `alloc`, as for an older rustc")
+    found = rustc(folder, [])
+    main = compared(*found)
+    same(main, rustc(folder, [], True, RELEASE), "without `alloc`, as for an older rustc")
     same_in_build_script(folder, [], main)
-    other = crate_of(written, known)
+    other = crate_of(found, known)
     if unknown := {*all_of(other)} - {*LEFT_OUT}:
         raise Untranslated(f"{min(unknown)} isn't known without the feature `alloc`")
 
@@ -125,10 +124,6 @@ def same_without_alloc(root, crate, known):
     ours = {*written(crate)}
     if others := [code for code in written(other) if code not in ours]:
         raise Untranslated(f"without the feature `alloc` this is another one: {others[0].splitlines()[0]}")
-
-
-def version():
-    return subprocess.run(["rustc", "--version"], cwd="/", capture_output=True, text=True).stdout.strip()
 
 
 def compared(mir, hir):
@@ -147,7 +142,7 @@ def same(main, written, where):
 
 def same_in_build_script(folder, features, main):
     """That the functions that the build script has of the crate are the crate's: they could print for cargo."""
-    written = rustc(folder, features, True, "-Cdebug-assertions=off", root="build.rs")[0]
+    written = rustc(folder, features, True, RELEASE, root="build.rs")[0]
     for m in re.finditer(ITEM, re.sub(r" = (?=<impl proved::triple::Triple>::host\(\))", " = host::", written)):
         if re.match(r"(compat|fields|hash|proved|search)::", m["name"]) and m[0] not in main:
             raise Untranslated(f"the build script has another function {m['name']}")
@@ -157,13 +152,13 @@ def source(root, known):
     """The crate as its main configuration has it, with debug assertions or without, and with features that add."""
     folder = root.resolve() / "packages/rust"
     check_manifest(root)
-    written = rustc(folder, ["alloc"])
-    main = compared(*written)
-    for features, older, *words in OTHERS:
-        same(main, rustc(folder, features, older, *words), f"with {' '.join([*features, *words])}, older: {older}")
-        if older:  # these are all sets of features with `alloc`
+    found = rustc(folder, *WAYS[0])
+    main = compared(*found)
+    for features, older in WAYS:
+        same(main, rustc(folder, features, older, RELEASE), f"with {' '.join(features)}, older: {older}")
+        if older:
             same_in_build_script(folder, features, main)
-    return crate_of(written, known)
+    return crate_of(found, known)
 
 
 def text_at(place):
@@ -188,17 +183,3 @@ def crate_of(written, known):
 def path(it):
     trait, owner, name = it.key
     return f"<{owner} as {trait}>::{name}" if trait else f"{owner}::{name}" if owner else name
-
-
-@contextlib.contextmanager
-def forms():
-    """A form of rustc's that isn't known is an error; one of another version is why nothing is proved of MIR."""
-    try:
-        yield
-    except NoCompiler:
-        raise
-    except (Untranslated, AttributeError, IndexError, KeyError, TypeError, ValueError) as why:
-        reason = str(why) if isinstance(why, Untranslated) else f"a form that isn't known: {why!r}"
-        if version().startswith(f"rustc {TRIED}."):
-            raise Untranslated(reason) from None
-        raise NoCompiler(f"{reason}, in what {version()} writes, while the form of {TRIED} is read") from None

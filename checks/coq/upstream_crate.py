@@ -8,7 +8,8 @@ import tempfile
 from pathlib import Path
 
 import upstream_mir
-from compiled import FLAGS, HERE, NoCompiler, all_of, forms, version
+from bridge import forms, version
+from compiled import FLAGS, HERE, NoCompiler, all_of
 from mir_grammar import plain
 
 FEATURES = "std", "arch_zkasm", "arch_z80"  # the last two decide nothing of ours
