@@ -23,8 +23,8 @@ RANGE = """
 Theorem mir_versions_in_range : ∀ v, mir_range_DeploymentTarget v → IsVersionInRange v.
 Proof. intros v H. unfold mir_range_DeploymentTarget in H. repeat split; apply H. Qed.
 """
-# The traits whose functions the source's translator doesn't write, but Traits.v and Orders.v are of.
-OF_MIR = ("std::Clone", "std::Hash", "std::Ord", "std::PartialOrd")
+# The traits whose functions the source's translator doesn't write, but Derived.v is of.
+DERIVED = ("std::Clone", "std::Hash")
 
 
 def heads(code):
@@ -204,9 +204,10 @@ def write(root, folder, translated=None):
     put("Same_mir", made.write())
     put("Compiled", made.theorems(theorems, proofs) + RANGE)
     put("Derived", derived.write(crate, made.projections))
-    for title, it, _ in crate.out:
-        if it and not title.endswith("_pure") and title not in made.lemmas and it.key[0] not in OF_MIR:
-            raise Untranslated(f"no function of the source is equal to it (in {compiled.path(it)})")
     others = "".join(compiled.HERE.joinpath(f"mir/{it}.v").read_text(encoding="utf-8") for it in ("Orders", "Borrowed"))
+    proved = {*made.lemmas, *re.findall(r"\w+", others)}
+    for title, it, _ in crate.out:
+        if it and not title.endswith("_pure") and title not in proved and it.key[0] not in DERIVED:
+            raise Untranslated(f"it is no function of the source, and no order of Orders.v (in {compiled.path(it)})")
     others = re.findall(r"^Theorem (\w+)", others, re.M)
     return dict.fromkeys([*(f"mir_{it}" for it in (*theorems, "versions_in_range")), *derived.SAID, *others])
