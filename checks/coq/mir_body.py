@@ -1,6 +1,7 @@
 """Writes the body of a function of MIR as Coq, path by path: what several blocks go on to is written after each of
 them. A loop is Rust.v's `loop` of what its blocks set. A shared reference is what it refers to, as no type that is
 known has a value that changes behind one. A `&mut` is the place that it borrows."""
+import functools
 import re
 from collections import namedtuple
 
@@ -172,10 +173,7 @@ class Body:
         if operand[0] not in ("copy", "move"):
             return operand[-1] if operand[0] == "value" else "?"
         local, steps = operand[1]
-        type = self.f.types[local]
-        for it in steps:
-            type = after(type, it)
-        return type
+        return functools.reduce(after, steps, self.f.types[local])
 
     def operand(self, it, env):
         kind, what = it[:2]

@@ -11,7 +11,7 @@ class Unknown(Untranslated):
     """What the reader doesn't know."""
 
 
-# A character, or brackets with what they enclose.
+# A character, or brackets with what they enclose, of whatever kind.
 ANY = r"[^()\[\]{}<>]"
 for _ in range(9):
     ANY = rf"(?:[^()\[\]{{}}<>]|[(\[{{<]{ANY}*[)\]}}>])"
