@@ -200,10 +200,8 @@ class Body:
         return self.crate.Body(self.crate, constant, True).whole() if is_body else self.operand(constant, {})
 
     def aggregate(self, path, args, names=None):
-        if m := re.match(r"std::option::Option(?:::<.*>)?::(None|Some)$", path):
-            return Con(m[1], args)
-        if m := re.match(r"std::result::Result(?:::<.*>)?::(Ok|Err)$", path):
-            return Con("Result__" + m[1], args)
+        if m := re.match(r"std::(?:option::Option|(result::Result))(?:::<.*>)?::(None|Some|Ok|Err)$", path):
+            return Con("Result__" * bool(m[1]) + m[2], args)
         if re.match(r"std::borrow::Cow(?:::<.*>)?::(Owned|Borrowed)$", path):
             return args[0]
         if m := re.match(r"std::ops::Range(To|From)?(?:::)?<usize>$", path):
