@@ -1,9 +1,11 @@
 -- A value feeds a hasher its variant and then its fields, and these bytes determine both, whatever follows them.
-use Rattle.lexicon_fields.proofs.Names.{Custom, DeploymentTarget, HashInjectiveOn, IfSome, IsVersionInRange, Option, ap}
+use Rattle.lexicon_fields.specs.declared.vendor.{CustomVendor.CustomVendor, Vendor.Vendor}
+use Rattle.lexicon_fields.proofs.Names.{DeploymentTarget, HashInjectiveOn, IsVersionInRange, VendorValue, known_vendors}
+use Rattle.lexicon_fields.proofs.Names.{Custom, HashWrites, IfSome, Known, Option, arith, length, rules, tag_of, usize}
 use Rattle.lexicon_fields.proofs.Values.{Distinguishes, bare_hash_injective, enum_hash_injective, variants_distinguish}
 use Rattle.lexicon_fields.proofs.Values.{first_byte, first_write, hash_injective_on, one_field, writes_after_first}
-use Rattle.lexicon_fields.proofs.{Names.arith, Names.refl, Names.rules, Values.same_u16}
-use Rattle.lexicon_fields.specs.{Vendor.custom_string, declared.vendor.CustomVendor.CustomVendor}
+use Rattle.lexicon_fields.proofs.{Names.ap, Names.refl, Names.sym, Names.◌++◌, Names.◌∙◌, Names.◌≡◌, Values.same_u16}
+use Rattle.lexicon_fields.specs.Vendor.{custom_string, vendor_value}
 use Rattle.std.specs.Hash.{le_bytes, option, str}
 use Rattle.lexicon_fields.specs.declared.architecture.Architecture.TheVariants as variants
 use Rattle.lexicon_fields.specs.contracts.vendor.VendorHash.TheImpl as vendor_hash
@@ -36,6 +38,14 @@ system_version-hash = hash_injective_on system_version-distinguishes (λ x y. ap
 custom_vendor-hash : HashInjectiveOn (λ (x : CustomVendor). Unit {0}) custom_string (λ x. str (custom_string x))
 custom_vendor-hash = grind (arith, hash_injective_on, first_write, writes_after_first)
 
+-- what a vendor value feeds
+abbrev value_hash : VendorValue → HashWrites
+value_hash (Known known) = usize (tag_of known_vendor.the_type known)
+value_hash (Custom text) = usize (length known_vendors) ++ str text
+
+hash_by_value : (x : Vendor) → vendor_hash.ghosts.hash_input x ≡ value_hash (vendor_value x)
+hash_by_value x = grind arith
+
 pub returns : goal.returns
 returns c = record {
   architecture =
@@ -66,7 +76,7 @@ returns c = record {
   vendor =
       hash_injective_on (variants_distinguish vendor.enum vendor_hash.ghosts.hash_input (omega arith) (λ x. refl)
       _ _ (one_field Custom custom_vendor-hash, tt))
-      (λ x y same. grind arith);
+      (λ x y same. hash_by_value x ∙ ap value_hash same ∙ sym (hash_by_value y));
   version = hash_injective_on version_distinguishes (λ x y. ap version_hash.ghosts.hash_input);
   operating_system =
       hash_injective_on (variants_distinguish operating_system.enum operating_system_hash.ghosts.hash_input
