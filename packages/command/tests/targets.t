@@ -194,8 +194,8 @@ An unknown environment after a machine and a system is wrong, and so is what is 
   ! more.yml:9:13: error: no tool has the name `linux/arn64`
   ! more.yml:9:26: error: no tool has the name `linux-arn64`
   ! more.yml:10:7: error: no tool has the name `arn64`
-  ! note: 3 words that may be targets aren't understood: --strict shows each
-  ! 8 of 11 targets refused
+  ! note: 2 words that may be targets aren't understood: --strict shows each
+  ! 8 of 10 targets refused
   $ target-lexicon check more.yml 2>&1 | grep -o 'mean `.*arm64`'
   mean `linux/arm64`
   mean `linux-arm64`

@@ -4,7 +4,7 @@ use crate::hints::LONGEST_PATH;
 use crate::meanings::meaning_with;
 use crate::name::Buffer;
 use crate::near::{ends_with_digit, is_of_tool, near};
-use crate::suggestions::{architecture_of, edits_between, known_names, vendor_suggestion, FIRST_RULES};
+use crate::suggestions::{architecture_of, vendor_suggestion};
 use crate::{Dialect, Evidence, Meaning, Meant, NameOf, Said, Sense};
 use core::fmt::Write;
 use core::iter::once;
@@ -52,26 +52,24 @@ pub fn targets_in(text: &str) -> TargetsIn<'_> {
 }
 
 /// The words of a text that a check looks at. Of a *list of targets*, in which more than half of the first items are
-/// names or may be misspelled ones, they are the items. Of any other text, such as a `.gitignore`, they are those of
-/// running text: the names that [`targets_in`] gives, what is an edit from one, and misspelled triples. Of
-/// other triples with a known vendor, of what has the parts of one and an unknown machine, of what a letter or a missing
-/// dash makes unknown, and of other values of the fourth rule's keys that say a machine, or before a slash a system,
-/// [`Word::is_unclear`] is true. [`Word::verdict`] says what is wrong.
+/// names or may be misspelled ones, and which isn't a table, with several lines of several items, they are the items. Of
+/// any other text, such as a `.gitignore`, they are those of running text: the names that [`targets_in`] gives, what is
+/// an edit of a letter, a digit or a sign from one, and misspelled triples. Of other triples with a known vendor, of
+/// what has the parts of one and an unknown machine, and of other values of the fourth rule's keys that say a machine, or
+/// before a slash a system, [`Word::is_unclear`] is true. [`Word::verdict`] says what is wrong.
 ///
 /// ```
 /// use target_names::words_in;
 ///
 /// let found = |text| words_in(text).map(|it| (it.part.text, it.is_unclear)).collect::<Vec<_>>();
-/// assert_eq!(found("platform: [linux/arm46, linux/foo]"), [("linux/arm46", false), ("linux/foo", true)]);
-/// assert_eq!(found("for qrm-linux-musl or x86_64-linux-nu"), [("qrm-linux-musl", true), ("x86_64-linux-nu", true)]);
-/// assert_eq!(found("it runs on manylonux_x86_64"), [("manylonux_x86_64", true)]);
-/// assert_eq!(found("built for aarch64-appledarwin"), [("aarch64-appledarwin", true)]);
+/// assert_eq!(found("platform: [linux/armv7, linux/foo]"), [("linux/armv7", false), ("linux/foo", true)]);
+/// assert_eq!(found("for qrm-linux-musl or aarch64-appledarwin")[1], ("aarch64-appledarwin", false));
 /// assert_eq!(found("0.5.0\ndist"), []);
 /// ```
 #[must_use]
 pub fn words_in(text: &str) -> TargetsIn<'_> {
     let words = targets_in(text);
-    if is_list_of_targets(words.clone()) {
+    if words.is_list && is_list_of_targets(&words) {
         return words;
     }
     TargetsIn { is_list: false, is_check: true, ..words }
@@ -80,14 +78,14 @@ pub fn words_in(text: &str) -> TargetsIn<'_> {
 /// How many items say whether a list is one of targets.
 const ENOUGH_ITEMS: usize = 100;
 
-fn is_list_of_targets(words: TargetsIn<'_>) -> bool {
-    let (mut items, mut named) = (0, 0);
-    for word in words.take_while(|it| it.is_item).take(ENOUGH_ITEMS) {
-        items += 1;
-        let says_machine = || Evidence::of(word.part.text).machine() != Said::Unsaid;
-        named += usize::from(word.is() != WordIs::Unknown && says_machine());
-    }
-    items < 2 * named
+fn is_list_of_targets(words: &TargetsIn<'_>) -> bool {
+    // A table has several lines of several items.
+    let has_several = |line: &&str| items(uncommented(line)).nth(1).is_some();
+    let is_table = words.lines.split('\n').filter(has_several).nth(1).is_some();
+    let says_machine = |it: &str| Evidence::of(it).machine() != Said::Unsaid;
+    let is_named = |it: &Word<'_>| it.is() != WordIs::Unknown && says_machine(it.part.text);
+    let first = words.clone().take(ENOUGH_ITEMS);
+    !is_table && first.clone().count() < 2 * first.filter(is_named).count()
 }
 
 /// The words of a text that are targets: [`targets_in`] returns them.
@@ -107,7 +105,7 @@ pub struct TargetsIn<'a> {
 }
 
 /// How many words are remembered.
-const PASSED: usize = 64;
+const PASSED: usize = 512;
 
 /// What a word is the value of: of a key whose values are targets, or parts of one.
 #[derive(Clone, Copy, Debug, PartialEq, Eq)]
@@ -121,8 +119,8 @@ impl Value {
     fn of(key: &str, is_check: bool) -> Value {
         let end = key.rsplit(['/', '.']).next();
         let is_option = key.strip_prefix("target_").map_or(false, |it| CFG_OPTIONS.contains(&it));
-        // A compiler's option for a processor: `-mcpu=rios2`, `-march=armv8-a`.
-        let is_processor = key.starts_with("-m") && !has(key, "triple");
+        // A compiler's option for a processor: `-mcpu=rios2`, `-march=armv8-a`, `-xarch=sparc6`.
+        let is_processor = ["-m", "-x"].iter().any(|it| key.starts_with(it)) && !has(key, "triple");
         match () {
             _ if is_processor => Value::None,
             _ if (KEYS.iter().any(|it| has(key, it)) || has_arch(key)) && !is_option => Value::Target,
@@ -232,7 +230,8 @@ impl<'a> TargetsIn<'a> {
             }
             let is_rest = word.starts_with(|it: char| "-._".contains(it) || it.is_ascii_digit());
             let is_end = |it: &str| it.ends_with(PATTERN) && is_rest || it.ends_with('$') || is_escape(it, word);
-            if is_end(before) || after.starts_with(PATTERN) && word.ends_with(['-', '.', '_']) {
+            let is_begun = self.is_check && after.starts_with(['$', '%', '{']);
+            if is_end(before) || is_begun || after.starts_with(PATTERN) && word.ends_with(['-', '.', '_']) {
                 continue;
             }
             // In C a word before a semicolon is a variable: `target = x23;`.
@@ -258,6 +257,7 @@ impl<'a> TargetsIn<'a> {
                     it
                 }
             };
+            let value = if is_value { Some(trimmed(word)) } else { None };
             let mut parts = once(word).chain(slashes).chain(dots.map(after_number)).map(trimmed);
             if self.is_check {
                 // What is a target says that the rest is something else: `x86_64-apple-darwin.runner`. A name may be in
@@ -265,32 +265,31 @@ impl<'a> TargetsIn<'a> {
                 let is_name = |it: &&str| may_be_given(it, false) && name_of(it).is_some() && is_whole(it);
                 let tool = |it: &'a str| it.rsplit_once('-').map(|it| it.0);
                 let ends = |it: &'a str| [it.split_once('-').map(|it| it.1), tool(it), tool(it).and_then(tool)];
+                let follows = |it: &str| &word[it.as_ptr() as usize - word.as_ptr() as usize + it.len()..];
                 // What ends within a number is no word: `linux-android-clang3` of `clang3.8`.
-                let is_cut = |it: &&str| {
-                    let end = it.as_ptr() as usize - word.as_ptr() as usize + it.len();
-                    let after = word[end..].strip_prefix('.');
-                    let goes_on = |it: &str| it.starts_with(|it: char| it.is_ascii_digit());
-                    ends_with_digit(it) && after.map_or(false, goes_on)
-                };
+                let goes_on = |it: &str| it.starts_with(|it: char| it.is_ascii_digit());
+                let is_cut = |it: &&str| ends_with_digit(it) && follows(it).strip_prefix('.').map_or(false, goes_on);
                 let whole = parts.clone().filter(|it| !is_cut(it));
                 let ends = whole.clone().flat_map(ends).flatten().filter(|it| it.matches('-').count() > 1);
-                let near = || ends.clone().find(|it| is_near_name(it)).map(|it| (it, false));
+                let misspelled = || ends.clone().find(|it| near(it, false).is_some()).map(|it| (it, false));
                 if let Some(name) = parts.clone().find(is_name) {
                     // Another folder or file of a path may be misspelled.
                     let is_apart = |it: &&str| !it.contains(name) && !name.contains(it);
-                    let apart = || ends.clone().filter(is_apart).find(|it| is_near_name(it)).map(|it| (it, false));
-                    let misspelled = if is_known(name) { apart() } else { near() };
-                    return misspelled.or(Some((name, false)));
+                    let apart =
+                        || ends.clone().filter(is_apart).find(|it| near(it, false).is_some()).map(|it| (it, false));
+                    let found = if is_known(name) { apart() } else { misspelled() };
+                    return found.or(Some((name, false)));
                 }
                 let is_part = is_part && is_alone(before, word, after);
                 // What ends with `+` is a compiler, as in `x86_64-unknown-haiku-g++`.
                 let mut found = whole.clone().filter(|it| !(it.len() < word.len() && word.ends_with('+')));
-                let found = found.find_map(|it| Some((it, clarity(it, is_value, is_part)?)));
+                let is_part = |it: &str| is_part && !follows(it).starts_with('.');
+                let found = found.find_map(|it| Some((it, clarity(it, is_value, is_part(it))?)));
                 let is_clear = matches!(found, Some((_, false)));
-                if let Some(found) = found.filter(|_| is_clear).or_else(near).or(found) {
+                if let Some(found) = found.filter(|_| is_clear).or_else(misspelled).or(found) {
                     return Some(found);
                 }
-            } else if let Some(part) = parts.find(|it| given(it, is_value).is_some()) {
+            } else if let Some(part) = parts.find(|it| given(it, value == Some(*it)).is_some()) {
                 return Some((part, false));
             }
             if !is_part {
@@ -304,10 +303,11 @@ fn trimmed(word: &str) -> &str {
     word.trim_matches(['-', '.', '/', '+', '_'])
 }
 
-/// Whether a word after a backslash is a byte in hexadecimal, as in `\x46`.
+/// Whether a word after a backslash is a byte in hexadecimal, as in `\x46`, or a letter for a sign and a name.
 fn is_escape(before: &str, word: &str) -> bool {
-    let mut bytes = word.bytes();
-    before.ends_with('\\') && word.len() == 3 && bytes.next() == Some(b'x') && bytes.all(|it| it.is_ascii_hexdigit())
+    let is_byte = |it: &str| it.len() == 2 && it.bytes().all(|it| it.is_ascii_hexdigit());
+    let is_name = || word.strip_prefix(['n', 'r', 't']).map_or(false, |it| name_of(it).is_some());
+    before.ends_with('\\') && (word.strip_prefix('x').map_or(false, is_byte) || is_name())
 }
 
 /// What a key has of which values are targets, or `arch`.
@@ -428,34 +428,30 @@ fn given(word: &str, is_value: bool) -> Option<WordIs<'_>> {
     let is_given = match is {
         WordIs::Name(_) => is_value || is_whole(word),
         WordIs::Misspelled(_) => word.contains(['-', '/']),
-        WordIs::Unknown => is_of_unknown_system(word) || is_value && is_near_name(word),
+        WordIs::Unknown => is_of_unknown_system(word) || is_value && near(word, false).is_some(),
     };
     is_given.then_some(is)
 }
 
 /// Whether a word that a check looks at is unclear, if it does.
 fn clarity(word: &str, is_value: bool, is_part: bool) -> Option<bool> {
-    // Prose writes `PowerPC64-linux`, and `i386-win32` is a name to somebody.
-    let is_other = || word.matches('-').count() == 1 && word.bytes().any(|it| it.is_ascii_uppercase());
     let has_more = || word.matches('-').count() > 1;
-    let is_triple =
-        |it: Meant<'_>| it.part.text != word && !is_other() && !Evidence::of(word).is_understood() && has_more();
     if let Some(is) = given(word, is_value) {
         let is_clear = match is {
             WordIs::Name(_) => true,
             WordIs::Misspelled(it) => {
-                is_value && !Evidence::of(word).is_understood() || is_triple(it) || is_near_name(word)
+                let may_be = is_value || it.part.text != word && has_more();
+                may_be && !Evidence::of(word).is_understood() || near(word, false).is_some()
             }
-            WordIs::Unknown => is_value || is_near_name(word),
+            WordIs::Unknown => is_value || near(word, false).is_some(),
         };
         return (is_clear || is_value || has_more()).then_some(!is_clear);
     }
-    let is_wrong = || is_of_unknown_environment(word, is_value) || near(word, is_part).is_some();
+    let is_wrong = || is_value && is_of_unknown_environment(word) || near(word, is_part).is_some();
     if word.len() <= LONGEST_PATH && is_wrong() && !is_known(word) {
         return Some(false);
     }
-    let is_unclear = (is_value || is_like_triple(word)) && is_unclear(word) || resembles_target(word);
-    is_unclear.then_some(true)
+    ((is_value || is_like_triple(word)) && is_unclear(word)).then_some(true)
 }
 
 /// Whether a word that isn't given says a machine, or a machine or a system before a slash. What runs jobs is no
@@ -469,42 +465,6 @@ fn is_unclear(word: &str) -> bool {
     let has_system = || word.contains('/') || is_like_triple(word) || word.split('-').next().map_or(false, is_of_tool);
     let is_said = evidence.machine() != Said::Unsaid || evidence.system != Said::Unsaid && has_system();
     is_said && !is_runner && name_of(word).is_none()
-}
-
-/// Whether a word is a target, except that a letter of its machine, of its environment or of a wheel's tag is another
-/// one, or a dash is missing: `qrm-linux-musl`, `x86_64-linux-nu`, `manylonux_x86_64`, `aarch64-appledarwin`.
-fn resembles_target(word: &str) -> bool {
-    const LONGEST: usize = 48;
-    let is_known = |text: &str| {
-        let is_known_triple = |it: TripleRef<'_>| {
-            let (machine, system) = (it.architecture, it.operating_system);
-            !it.vendor.is_custom() && machine != Architecture::Unknown && system != OperatingSystem::Unknown
-        };
-        TripleRef::from_str(text).map_or(false, is_known_triple)
-    };
-    let is_known_with_dash = |before: &str, after: &str| {
-        let mut room = Buffer::<{ LONGEST + 8 }>::new();
-        write!(room, "{before}-{after}").is_ok() && is_known(room.as_str())
-    };
-    let is_near = |part: &str, name: &str| edits_between(part.as_bytes(), name) == Some(1);
-    let has_sign = |it: u8| !it.is_ascii_lowercase() && !it.is_ascii_digit() && it != b'-' && it != b'_';
-    if word.len() > LONGEST || word.bytes().any(has_sign) {
-        return false;
-    }
-    let Some((machine, rest)) = word.split_once('-') else {
-        let (tag, machine) = word.split_once('_').unwrap_or((word, ""));
-        return only_machine(machine).is_some() && ["manylinux", "musllinux"].iter().any(|it| is_near(tag, it));
-    };
-    let (before, last) = word.rsplit_once('-').unwrap_or((word, ""));
-    let mut machines = known_names(Field::Architecture).iter().copied().chain(FIRST_RULES.iter().map(|it| it.1));
-    let mut environments = known_names(Field::Environment).iter();
-    is_known_with_dash("x86_64", rest) && machines.any(|it| is_near(machine, it)) && name_of(word).is_none()
-        || last.len() > 1 && is_known(before) && !is_known(word) && environments.any(|it| is_near(last, it))
-        || (1..word.len()).any(|at| is_known_with_dash(&word[..at], &word[at..]) && !word[at..].starts_with('-'))
-}
-
-fn is_near_name(word: &str) -> bool {
-    near(word, false).is_some()
 }
 
 /// Whether a word has the parts of a triple, of which one after the first is a known vendor: `i868-unknown-linux-gnu`.
@@ -565,24 +525,17 @@ fn is_of_unknown_system(word: &str) -> bool {
     }
 }
 
-/// Whether a word is a triple with a known vendor, or without one, except for its last part, which resembles an
-/// environment, or follows a vendor and a system where a target is expected.
-fn is_of_unknown_environment(word: &str, is_value: bool) -> bool {
+/// Whether a word, where a target is expected, is a triple with a known vendor except for its last of four parts.
+fn is_of_unknown_environment(word: &str) -> bool {
     let Err(refusal) = TripleRef::from_str(word) else {
         return false;
     };
     let part = refusal.part.text;
     let before = word.strip_suffix(part).unwrap_or("").trim_end_matches('-');
     let is_known = |it: TripleRef<'_>| !it.vendor.is_custom() && it.operating_system != OperatingSystem::Unknown;
-    let mut names = known_names(Field::Environment).iter();
-    let is_full = word.matches('-').count() == 3;
     refusal.expected == Some(Field::Environment)
+        && word.matches('-').count() == 3
         && TripleRef::from_str(before).map_or(false, is_known)
         && !is_of_no_triple(part)
         && !said(part).map_or(false, |it| it.ends_with(" soft") || it.ends_with(" hard"))
-        && (is_value && is_full
-            || names.any(|name| match edits_between(part.as_bytes(), name) {
-                Some(edits) => part.len() > 3 || is_full && part.len() > 1 && edits == 1 && said(part).is_none(),
-                None => false,
-            }))
 }

@@ -47,7 +47,7 @@ const ROWS: &[(&str, &[&str])] = &[
         "foo bar x86_64-foo-msvc", "foo bar i368-w64-mingw32", "foo bar x86_64-foo-foo-gnu", "foo bar x86_64-unknown",
         "foo bar a_b", "foo bar x86_64", "foo bar arm-based x86-64-v2", "foo bar amd64-linxu",
         "foo bar x86_64-linux-gnux86_64-linux-gnux86_64-linux-gnu", "hierarchical: amd64 x", "archive: amd64 x",
-        "platform: linux x", "platform: win32 x",
+        "platform: linux x", "platform: win32 x", "platform: linux/arm/foo x", "target: arm64/foo\nplease",
     ]),
     ("linux/amd64 é! x86_64-linux", &["linux/amd64,é,x86_64-linux"]),
     ("arm64-linux avr amd64", &[
