@@ -47,7 +47,8 @@ impl Helper {
             return help.clone();
         }
         let Help { suggestion, note } = help_of_names(refusal, target.text);
-        let note = note.or_else(|| if refusal.has_reason() { None } else { self.note(target) });
+        let is_said = refusal.has_reason() || refusal.is_of_level();
+        let note = note.or_else(|| if is_said { None } else { self.note(target) });
         let is_whole = refusal.is_of_triple(target.text);
         let of_text = || Note::of(target.text.trim(), None).filter(|it| is_whole || matches!(it, Note::Ascii(_)));
         let may_be = suggestion.is_none() && (is_whole || !target.text.is_ascii());

@@ -5,7 +5,9 @@ use crate::refusal::Refusal;
 use clap::ArgMatches;
 use std::cell::Cell;
 use target_lexicon::{OperatingSystem, Source, Sources, TripleRef, VendorRef};
-use target_names::{is_vendor_of_rustc, read, vendor_suggestion, ChosenLibc, Dialect, NameError, TargetInfo, Verdict};
+use target_names::{
+    is_vendor_of_rustc, meanings, read, vendor_suggestion, ChosenLibc, Dialect, NameError, TargetInfo, Verdict,
+};
 
 /// How targets are given.
 #[derive(Clone, Copy, PartialEq, Eq)]
@@ -94,7 +96,7 @@ impl Reader {
         let (triple, warning) = match self.from {
             None => self.stated(text)?,
             Some(dialect) => match dialect.read_loosely(text) {
-                Ok(it) => (it.triple, None),
+                Ok(it) => (it.triple, lost_level(text, it.level)),
                 Err(error) => return Err(Refusal::of_name(text, dialect, error)),
             },
         };
@@ -117,7 +119,9 @@ impl Reader {
             }
             Verdict::Unknown(meant) => Err(Refusal::unknown_to_all(text, meant)),
             Verdict::Right(triple) if TripleRef::from_str(text) != Ok(triple) => {
-                Ok(Meant::Triple(self.completed(triple), None))
+                let mut meant = meanings(text).filter_map(|it| it.sense.ok());
+                let warning = meant.find(|it| it.triple == triple).and_then(|it| lost_level(text, it.level));
+                Ok(Meant::Triple(self.completed(triple), warning))
             }
             Verdict::Right(_) | Verdict::Refused(_) | Verdict::NearVendor(..) => {
                 self.parse(text).map(|it| Meant::Triple(self.completed(it.triple), it.warning))
@@ -160,4 +164,8 @@ impl Reader {
     pub fn needless_libc(&self) -> Option<ChosenLibc> {
         self.libc.filter(|_| !self.needs_libc.get())
     }
+}
+
+fn lost_level<'a>(text: &'a str, level: &str) -> Option<Refusal<'a>> {
+    (!level.is_empty()).then(|| Refusal::of_level(text, level))
 }

@@ -62,6 +62,13 @@ impl<'a> Refusal<'a> {
         Refusal { field: Some(Field::Vendor), names: Names::OfVendors(triple), ..Refusal::new("custom vendor", part) }
     }
 
+    /// A warning that a name says a level of its machine, which no triple does.
+    pub fn of_level(text: &'a str, level: &str) -> Self {
+        let part = text.rfind(level).map(|start| TextPart { text: &text[start..][..level.len()], start });
+        let whole = TextPart { text, start: 0 };
+        Refusal { is_warning: true, ..Refusal::new("no triple has the level", part.unwrap_or(whole)) }
+    }
+
     /// A line with bytes that aren't UTF-8. It is shown with U+FFFD for them, of which the first is where it ends to be
     /// UTF-8.
     pub fn not_utf8(text: &'a str, start: usize) -> Self {
@@ -111,6 +118,11 @@ impl Refusal<'_> {
     /// Whether it is of a whole target, which is no triple.
     pub fn is_of_triple(&self, text: &str) -> bool {
         matches!(self.names, Names::OfParts(_)) && self.part.text == text
+    }
+
+    /// Whether it only says that a level is lost.
+    pub fn is_of_level(&self) -> bool {
+        self.is_warning && self.field.is_none()
     }
 
     /// Whether it is a name that a dialect doesn't have.

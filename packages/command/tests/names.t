@@ -264,6 +264,16 @@ A C library that changes nothing is noted, unless nothing is answered or asked:
       debian  amd64v3
       oci     linux/amd64/v3
       -       go, python, rust, dotnet, conda, zig, nix: packages and targets of the tool are for another version of the machine: armhf of Debian is for Armv7 and armel for Armv5, x86 of Alpine is for the i586
+  $ target-lexicon matrix --from oci linux/amd64/v3 linux/amd64
+  x86_64-unknown-linux\tlinux/amd64/v3\t2\targument:1 (esc)
+  ! warning: no triple has the level `v3`
+  !   linux/amd64/v3
+  !               ^^
+  $ echo 'run: docker build --platform linux/amd64/v3 .' > level; target-lexicon settle level; target-lexicon check level
+  x86_64-unknown-linux
+  ! level:1:42: warning: no triple has the level `v3`
+  !   linux/amd64/v3
+  !               ^^
   $ target-lexicon what linux/amd46
   ! error: no tool has the name `linux/amd46`
   !   linux/amd46

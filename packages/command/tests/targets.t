@@ -149,6 +149,12 @@ An argument that is the path of a file is a text, in which targets are found. A 
   [3]
   $ echo 'on: x86_64-linux-gnuu' > arm-build.sh; mkdir arm-build; target-lexicon check arm-build.sh arm-build | head -n 1
   ! arm-build.sh:1:18: error: unrecognized environment `gnuu`
+  $ printf 'of an x86_64\xe2\x80\x93linux\xe2\x80\x91gnu, on Linux\xe2\x80\x93arm64\n' > typeset; target-lexicon check typeset
+  ! typeset:1:7: error: unrecognized architecture `x86_64\u{2013}linux\u{2011}gnu`
+  !   x86_64\u{2013}linux\u{2011}gnu
+  !   ^^^^^^^^^^^^^^^^^^^^^^^^^^^^^^
+  !   note: with the dashes and quotes of ASCII it is `x86_64-linux-gnu`
+  [1]
   $ printf 'caf\xe9: x86_64-linux-gnuu\n' > bytes; target-lexicon check bytes | head -n 1
   ! bytes:1:20: error: unrecognized environment `gnuu`
 

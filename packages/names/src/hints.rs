@@ -498,7 +498,7 @@ impl<'a> Note<'a> {
             let evidence = Evidence::of(text);
             (!evidence.is_empty()).then_some(Note::Words(evidence))
         };
-        if is_typeset(text) {
+        if is_typeset(text, |it| meaning_with(it, &mut |_| true).is_some()) {
             return Some(Note::Ascii(text));
         }
         match dialect {
@@ -539,15 +539,19 @@ fn says_digit_last(note: &Note<'_>) -> bool {
 /// A string with the dashes that a word processor made of `-`, and without its quotes and white space around it.
 fn plain(text: &str) -> impl Iterator<Item = char> + '_ {
     let is_around = |it: char| ('\u{2018}'..='\u{201f}').contains(&it) || it.is_whitespace();
-    let is_dash = |it: char| ('\u{2010}'..='\u{2015}').contains(&it) || it == '\u{2212}';
     text.trim_matches(is_around).chars().map(move |it| if is_dash(it) { '-' } else { it })
 }
 
-/// Whether a string is a name of some tool but for the dashes and quotes of a word processor.
-pub(crate) fn is_typeset(text: &str) -> bool {
+/// Whether a character is a dash that a word processor makes of `-`.
+pub(crate) fn is_dash(it: char) -> bool {
+    ('\u{2010}'..='\u{2015}').contains(&it) || it == '\u{2212}'
+}
+
+/// Whether a string has the dashes or quotes of a word processor, and is so with those of ASCII.
+pub(crate) fn is_typeset(text: &str, is: impl FnOnce(&str) -> bool) -> bool {
     let mut spelled = Buffer::<LONGEST_PATH>::new();
     !text.is_ascii()
         && plain(text).try_for_each(|it| spelled.write_char(it)).is_ok()
         && spelled.as_str().bytes().all(|it| it == b' ' || it.is_ascii_graphic())
-        && meaning_with(spelled.as_str(), &mut |_| true).is_some()
+        && is(spelled.as_str())
 }

@@ -1,6 +1,6 @@
 //! The targets in any text.
 use crate::evidence::{is_of_no_triple, only_machine, said};
-use crate::hints::LONGEST_PATH;
+use crate::hints::{is_dash, is_typeset, LONGEST_PATH};
 use crate::meanings::meaning_with;
 use crate::name::Buffer;
 use crate::near::{ends_with_digit, is_of_tool, near};
@@ -56,7 +56,8 @@ pub fn targets_in(text: &str) -> TargetsIn<'_> {
 /// any other text, such as a `.gitignore`, they are those of running text: the names that [`targets_in`] gives, what is
 /// an edit of a letter, a digit or a sign from one, and misspelled triples. Of other triples with a known vendor, of
 /// what has the parts of one and an unknown machine, and of other values of the fourth rule's keys that say a machine, or
-/// before a slash a system, [`Word::is_unclear`] is true. [`Word::verdict`] says what is wrong.
+/// before a slash a system, [`Word::is_unclear`] is true. A name that only has a word processor's dashes is given, with
+/// these. [`Word::verdict`] says what is wrong.
 ///
 /// ```
 /// use target_names::words_in;
@@ -64,6 +65,7 @@ pub fn targets_in(text: &str) -> TargetsIn<'_> {
 /// let found = |text| words_in(text).map(|it| (it.part.text, it.is_unclear)).collect::<Vec<_>>();
 /// assert_eq!(found("platform: [linux/armv7, linux/foo]"), [("linux/armv7", false), ("linux/foo", true)]);
 /// assert_eq!(found("for qrm-linux-musl or aarch64-appledarwin")[1], ("aarch64-appledarwin", false));
+/// assert_eq!(found("an x86_64–linux–gnu, or Linux–arm64"), [("x86_64–linux–gnu", false)]);
 /// assert_eq!(found("0.5.0\ndist"), []);
 /// ```
 #[must_use]
@@ -212,12 +214,28 @@ impl<'a> TargetsIn<'a> {
         Some(item)
     }
 
+    /// The word at the start of a text that is a name but for the dashes of a word processor. With one dash it is a
+    /// value: prose writes `Linux–x86_64`.
+    fn typeset(&self, text: &'a str) -> Option<&'a str> {
+        let mut ends = text.char_indices().take(LONGEST_PATH).filter(|it| !is_of_word(it.1) && !is_dash(it.1));
+        let end = ends.next().map(|it| it.0).or_else(|| (text.len() <= LONGEST_PATH).then_some(text.len()))?;
+        let word = text[..end].trim_end_matches(|it| is_dash(it) || "-./+".contains(it));
+        let is_value = self.value != Value::None || word.matches(is_dash).count() > 1;
+        (is_value && is_typeset(word, is_whole)).then_some(word)
+    }
+
     /// A word, and whether it is unclear.
     fn next_word(&mut self) -> Option<(&'a str, bool)> {
         loop {
             let (before, rest) = self.line.split_at(self.line.find(is_of_word)?);
             let end = rest.find(|it| !is_of_word(it)).unwrap_or(rest.len());
             let (word, after) = rest.split_at(end);
+            if self.is_check && after.starts_with(is_dash) {
+                if let Some(typeset) = self.typeset(rest) {
+                    self.line = &rest[typeset.len()..];
+                    return Some((typeset, false));
+                }
+            }
             // An item of YAML is on its own.
             self.line = if word == "-" { after.trim_start() } else { after };
             let is_key = is_key(after);

@@ -23,7 +23,7 @@ impl Call for Check {
         let text = target.text;
         let is_name = |it: Meaning<'_>| reader.from.map(NameOf::Dialect) == Some(it.of);
         match reader.meaning_of(target) {
-            Ok(Meant::Triple(_, Some(warning))) => Err(warning.into_error()),
+            Ok(Meant::Triple(_, Some(warning))) if !warning.is_of_level() => Err(warning.into_error()),
             // Without a triple it is a name, too.
             Err(_) if meanings(text).any(is_name) => Ok(Answered::default()),
             meaning => meaning.map(|_| Answered::default()),
