@@ -106,7 +106,7 @@ pub struct Evidence<'a> {
     vendor: Said<&'static str>,
     /// By its known name, or `other`, which no triple has.
     pub(crate) system: Said<&'static str>,
-    library: Said<&'static str>,
+    pub(crate) library: Said<&'static str>,
     /// What else an environment says, such as `android`, `sim` or `n64`.
     form: Said<&'static str>,
     /// The first word that isn't understood, after the first that says a machine or a system.

@@ -2333,8 +2333,8 @@ pub(crate) static OTHER_WORDS: &[&str] = &[
     "kvx", "lanai", "le32", "le64", "lm32", "m32c", "m68hc11", "m88k", "mcore", "mep", "metag", "mic", "microblaze",
     "microblazeel", "mn10300", "moxie", "nds32", "ns32k", "open8", "pru", "r600", "rl78", "rv32", "rv64", "score",
     "shave", "spir", "spirv", "spirv32", "spu", "sw64", "tic6x", "tile", "tilepro", "unicore32", "v850", "vax",
-    "visium", "xcore", "xgate", "xstormy16", "arm7hl", "armbe", "armh", "rios1", "rios2", "mpe", "threadx",
-    "windowsce", "wali",
+    "visium", "xcore", "xgate", "xstormy16", "arm7hl", "armbe", "armh", "pentium2", "pentium3", "rios1", "rios2",
+    "mpe", "threadx", "windowsce", "wali",
 ];
 
 pub(crate) static SYSTEMS: &[(&str, &str)] = systems![

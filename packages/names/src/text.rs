@@ -56,15 +56,16 @@ pub fn targets_in(text: &str) -> TargetsIn<'_> {
 /// any other text, such as a `.gitignore`, they are those of running text: the names that [`targets_in`] gives, what is
 /// an edit of a letter, a digit or a sign from one, and misspelled triples. Of other triples with a known vendor, of
 /// what has the parts of one and an unknown machine, and of other values of the fourth rule's keys that say a machine, or
-/// before a slash a system, [`Word::is_unclear`] is true. A name that only has a word processor's dashes is given, with
-/// these. [`Word::verdict`] says what is wrong.
+/// a system with a C library or before a slash, [`Word::is_unclear`] is true. A name that only has a word processor's
+/// dashes is given, with these. [`Word::verdict`] says what is wrong.
 ///
 /// ```
 /// use target_names::words_in;
 ///
 /// let found = |text| words_in(text).map(|it| (it.part.text, it.is_unclear)).collect::<Vec<_>>();
 /// assert_eq!(found("platform: [linux/armv7, linux/foo]"), [("linux/armv7", false), ("linux/foo", true)]);
-/// assert_eq!(found("for qrm-linux-musl or aarch64-appledarwin")[1], ("aarch64-appledarwin", false));
+/// assert_eq!(found("target: qrm-linux-musl"), [("qrm-linux-musl", true)]);
+/// assert_eq!(found("for aarch64-appledarwin"), [("aarch64-appledarwin", false)]);
 /// assert_eq!(found("an x86_64–linux–gnu, or Linux–arm64"), [("x86_64–linux–gnu", false)]);
 /// assert_eq!(found("0.5.0\ndist"), []);
 /// ```
@@ -472,7 +473,7 @@ fn clarity(word: &str, is_value: bool, is_part: bool) -> Option<bool> {
     ((is_value || is_like_triple(word)) && is_unclear(word)).then_some(true)
 }
 
-/// Whether a word that isn't given says a machine, or a machine or a system before a slash. What runs jobs is no
+/// Whether a word that isn't given says a machine, or a system with a C library, or before a slash. What runs jobs is no
 /// target, such as `macos-14-large`, nor what has capital letters, as identifiers have.
 fn is_unclear(word: &str) -> bool {
     if word.len() > LONGEST_PATH || word.bytes().any(|it| it.is_ascii_uppercase()) {
@@ -480,7 +481,9 @@ fn is_unclear(word: &str) -> bool {
     }
     let evidence = Evidence::of(word);
     let is_runner = RUNNERS.iter().any(|it| word.strip_prefix(it).map_or(false, |it| it.starts_with('-')));
-    let has_system = || word.contains('/') || is_like_triple(word) || word.split('-').next().map_or(false, is_of_tool);
+    let has_library = evidence.library != Said::Unsaid;
+    let has_system =
+        || has_library || word.contains('/') || is_like_triple(word) || word.split('-').next().map_or(false, is_of_tool);
     let is_said = evidence.machine() != Said::Unsaid || evidence.system != Said::Unsaid && has_system();
     is_said && !is_runner && name_of(word).is_none()
 }
