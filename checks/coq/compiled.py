@@ -37,8 +37,9 @@ LEFT_OUT = {
     "<parse_triple_error::ParseTripleError as std::Display>::fmt", "parse_triple_error::visible",
     "< as compat::Chunks>::first_chunk", "< as compat::Chunks>::last_chunk"}  # of older versions of Rust
 # What may decide what is compiled: the features that are tried, and what no build of a user has.
-NAME = r'(?:not\()?(?:feature = "(?:alloc|std)"|core_error|docsrs|doctest|test)\)?'
-CONDITION = rf"#!?\[cfg(_attr)?\((?:(?:all|any)\()?{NAME}(?:, {NAME})*\)?(?(1), (?:(?!\bcfg)[\w(), =\"])+)\)\]"
+NAME = r'(?:feature = "(?:alloc|std)"|core_error|docsrs|doctest|test)'
+PREDICATE = r"(?:IT|(?:all|any)\(IT(?:, IT)*\))".replace("IT", rf"(?:{NAME}|not\({NAME}\))")
+CONDITION = rf"#!?\[cfg(_attr)?\({PREDICATE}(?(1), (?:(?!\bcfg)[\w(), =\"])+)\)\]"
 # The ways to compile with `alloc`, of which the first is the main one: all features that Cargo.toml lets one have, and
 # whether as for an older rustc.
 WAYS = [(["alloc", *more], older) for more in ([], ["std"], ["std", "serde_support"]) for older in (False, True)]
@@ -81,11 +82,13 @@ def rustc(folder, features, older=False, *words, root="src/lib.rs"):
     for it in files - {Path(out, "host.rs"), folder / "build.rs"}:
         if not re.fullmatch(r"[\w/]+\.rs", os.path.relpath(it, folder / "src")):
             raise Untranslated(f"the crate is compiled of {it}")
-        text = it.read_text(encoding="utf-8").replace('#[cfg(feature = "serde_support")]\nmod serde;', "")
+        text = it.read_bytes().decode().replace('#[cfg(feature = "serde_support")]\nmod serde;', "")
+        if "\r" in text:  # which ends a line here, and not to rustc
+            raise Untranslated(f"{it}: a carriage return")
         if others := [line for line in re.findall(r".*\bcfg.*", text) if not re.fullmatch(CONDITION, line.strip())]:
             raise Untranslated(f"{it}: a configuration that isn't tried decides what is compiled: {others[0]}")
     expanded = re.sub(r"#\[macro_export\]\s+macro_rules! triple\b", "", expanded)  # another could be one of build.rs's
-    for it in re.findall(r"#\s*!?\s*\[\s*([^\]]*)", expanded):
+    for it in re.findall(r"(?=#\s*!?\s*\[\s*([^\]]*))", expanded):  # one may begin in what another one has
         if re.match(r"\w*", it)[0] not in ATTRIBUTES and it != "feature(prelude_import)" and not (
                 root == "build.rs" and it.startswith('path = "src/')):
             raise Untranslated(f"the attribute {it}")

@@ -38,6 +38,7 @@ class Body:
     def __init__(self, crate, function, pure):
         self.crate, self.types, self.f, self.pure = crate, crate.types, function, pure
         self.blocks, self.fresh, self.before, self.on_path, self.loop = function.blocks(), 0, [], [], None
+        self.visited = set()
         self.cells = [f"*{n}" for n, type in function.parameters if type.startswith("&mut ")]
 
     def new(self, base):
@@ -375,11 +376,16 @@ class Body:
         if len(it.parameters) != 1:
             raise Unknown(f"the arguments of {value.name}")
         name, body = self.new("given"), self.crate.Body(self.crate, it, True)  # which is no name in the body
-        return f"(λ {name}, {body.go(0, {**body.begun(), it.parameters[0][0]: name})})"
+        return f"(λ {name}, {body.whole({it.parameters[0][0]: name})})"
 
     # ---- blocks
-    def whole(self):
-        return self.go(0, self.begun())
+    def whole(self, more=()):
+        """The code of all blocks. Of those that no path reaches rustc may have inferred a type of what is read."""
+        code = self.go(0, self.begun() | dict(more))
+        left = [b for b, it in self.blocks.items() if b not in self.visited and it != ([], ("unreachable",))]
+        if left:
+            raise Unknown(f"a block that no path reaches, {left[0]}")
+        return code
 
     def begun(self):
         """The variables at the beginning."""
@@ -410,6 +416,7 @@ class Body:
             return f"Some (Next {self.tuple([self.code(env[n]) for n in self.loop[1]])})"
         if b in self.on_path:
             raise Unknown("a loop in another one")
+        self.visited.add(b)
         self.on_path.append(b)
         code = self.repeated(b, env) if not self.loop and b in self.reached(b) else self.block(b, dict(env))
         self.on_path.pop()

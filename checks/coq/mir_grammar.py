@@ -56,7 +56,7 @@ def within(number, type):
 def read(forms, text):
     """What the first form that a text has makes of its parts."""
     for form, make in forms.items():
-        if m := re.fullmatch(form, text):
+        if m := re.fullmatch(form, text, re.ASCII):
             return make(*m.groups())
     raise Unknown(f"the form {text}")
 
@@ -233,7 +233,8 @@ def read_hir(text):
         if not m or not kind or kind[1] not in KINDS:
             raise Unknown(f"an item {block.splitlines()[0]} of kind {kind and kind[1]}")
         (crate, path), kind = m.groups(), kind[1]
-        if re.match(r"(core|alloc|std)::", path) or path in taken or kind in ("Enum", "Struct") and path.islower():
+        is_function = kind in ("Enum", "Struct") and not re.search(r"(^|::)[A-Z]\w*$", path)  # a constructor may be one
+        if re.match(r"(core|alloc|std)::", path) or path in taken or is_function:
             raise Unknown(f"{path}, whose name could be another one's")
         if "#" in re.sub(r"\{\w+#\d+\}", "", path) or path in paths:
             raise Unknown(f"{path}, which isn't the only one of its path")
@@ -250,6 +251,8 @@ def read_hir(text):
         elif kind == "Enum":
             parts = flat.split(" Variant { ident: ")[1:]
             types[path] = [(it.partition("#")[0], it.count(" FieldDef {")) for it in parts]
+            if others := [name for name, _ in types[path] if not name[0].isupper()]:
+                raise Unknown(f"a variant {others[0]} of {path}, whose name could be another one's")
         elif kind == "Struct":
             types[path] = [it.partition("#")[0] for it in flat.split(" FieldDef { ident: ")[1:]]
         elif kind == "Impl":
