@@ -63,7 +63,7 @@ ONLY_ONCE = {"arm64ilp32": "aarch64", "powerpcspe": "powerpc", "x32": "x86_64", 
              "ppc64p7": "powerpc64", "sparcv9": "sparc", "armv7h": "armv7", "armv6h": "armv6", "thumb": "thumbv7a",
              "armel": "armv5te", "arm32v5": "armv5te", "arm32v6": "armv6", "arm32v7": "armv7", "arm64/v8.0": "aarch64",
              "wasm64": "wasm64", "earmv6hf": "armv6", "earmv7hf": "armv7", "armv7a": "armv7", "msp430": "msp430",
-             "bpfeb": "bpfeb", "bpfel": "bpfel"}
+             "bpfeb": "bpfeb", "bpfel": "bpfel", "znver1": "x86_64"}
 # Words that mean another machine in one dialect, or there on one system: the little-endian builds of Node on Linux, the
 # versions of Arm that a tool needs, models of the i386 that others don't tell apart, and programs of 32 bits on
 # Windows.

@@ -463,7 +463,6 @@ pub(crate) static TABLES: [Table; 15] = [
         ("musl-linux-sparc", "sparc-unknown-linux-musl", Both),
         ("musl-linux-sparc64", "sparc64-unknown-linux-musl", Both),
         ("musl-linux-armhf", "armv7-unknown-linux-musleabihf", Both),
-        ("musl-linux-armel", "armv5te-unknown-linux-musleabi", Both),
         ("powerpcspe", "powerpc-unknown-linux-gnuspe", Both),
         ("solaris-amd64", "x86_64-pc-solaris", Read),
         ("netbsd-amd64", "x86_64-unknown-netbsd", Read),
@@ -478,9 +477,9 @@ pub(crate) static TABLES: [Table; 15] = [
     ],
     by_name: &[
         0, 1, 4, 19, 36, 2, 37, 5, 20, 21, 40, 22, 41, 42, 6, 43, 44, 45, 46, 7, 49, 38, 50, 51, 52, 8, 53, 54, 55,
-        56, 57, 58, 39, 23, 59, 9, 24, 25, 60, 61, 62, 63, 26, 64, 65, 66, 67, 27, 28, 68, 69, 70, 71, 91, 90, 72,
-        73, 74, 75, 76, 77, 78, 79, 80, 81, 82, 83, 84, 85, 86, 87, 88, 89, 94, 10, 47, 48, 11, 29, 12, 92, 30, 31,
-        32, 13, 33, 14, 15, 16, 17, 93, 3, 34, 35, 18, 95, 96,
+        56, 57, 58, 39, 23, 59, 9, 24, 25, 60, 61, 62, 63, 26, 64, 65, 66, 67, 27, 28, 68, 69, 70, 71, 90, 72, 73,
+        74, 75, 76, 77, 78, 79, 80, 81, 82, 83, 84, 85, 86, 87, 88, 89, 93, 10, 47, 48, 11, 29, 12, 91, 30, 31, 32,
+        13, 33, 14, 15, 16, 17, 92, 3, 34, 35, 18, 94, 95,
     ],
     patterns: &[
     ],

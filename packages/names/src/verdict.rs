@@ -75,6 +75,8 @@ impl<'a> Word<'a> {
             {
                 Verdict::Unknown(meant)
             }
+            // An empty part can't be shown.
+            (Err(refusal), near) if refusal.part.text.is_empty() => Verdict::Unknown(near.flatten()),
             (Err(refusal), _) => Verdict::Refused(refusal),
             (Ok(triple), near) => match (triple.vendor, explanation.sources.vendor) {
                 (VendorRef::Custom(vendor), _) if is_vendor_of_rustc(vendor) || is_meant(vendor) => {
