@@ -265,8 +265,9 @@ class Comparison(Report):
     def check_rpm(self):
         if not self.has("rpm", shutil.which("rpm")):
             return
-        # Levels of x86-64 are newer than Debian's rpm.
-        meanings = {name: it for name, it in self.meanings("rpm").items() if not name.startswith("x86_64_v")}
+        # Levels of x86-64 are newer than Debian's rpm, and that of Zen is OpenMandriva's.
+        others = ("x86_64_v", "znver")
+        meanings = {name: it for name, it in self.meanings("rpm").items() if not name.startswith(others)}
         asked = {name: output("rpm", f"--target={name}-linux", "--eval", "%{_lib} %{optflags}") for name in meanings}
         known = re.findall(r"^arch_canon:\s*(\w+):", crates.read("/usr/lib/rpm/rpmrc"), re.M)
         self.fact("rpm has its architectures", ((name, name in known, True) for name in meanings))
