@@ -17,8 +17,8 @@ CRATES = {"src/lib.rs": ("--crate-name=target_lexicon", "--crate-type=lib"),
           "build.rs": ("--crate-name=build_script_build",)}
 # A constant that decides stays in the function that it decides about, as it may depend on the target or the host.
 UNFOLDED = ",".join(f"-SimplifyConstCondition-{it}" for it in ("after-inst-simplify", "after-const-prop", "final"))
-FLAGS = ("-Funsafe-code", "-Fnon-ascii-idents", "-Copt-level=0", "-Coverflow-checks=on", "-Ztrim-diagnostic-paths=no",
-         f"-Zmir-enable-passes={UNFOLDED}")
+FLAGS = ("-Funsafe-code", "-Fnon-ascii-idents", "-Funreachable-code", "-Copt-level=0", "-Coverflow-checks=on",
+         "-Ztrim-diagnostic-paths=no", f"-Zmir-enable-passes={UNFOLDED}")
 # What the build script writes, which is another host as for an older rustc; what answers it isn't proved.
 HOST = "Triple {{ architecture: Architecture::{}, vendor: Vendor::{}, operating_system: OperatingSystem::{}, " \
        "environment: Environment::{}, binary_format: BinaryFormat::{} }}"
@@ -105,6 +105,10 @@ def all_of(crate):
             crate.write(it)
         except Unknown as why:
             unwritten[path(it)] = str(why)
+    written = {it.path for it in crate.all() if it.key[0] not in UNSAID and path(it) not in unwritten}
+    for it in crate.functions:
+        if it.path.partition("::{closure#")[0] in written - {it.path} and it.path not in crate.called:
+            unwritten[it.path] = "a closure that nothing calls, of which rustc may have inferred a type"
     return unwritten
 
 

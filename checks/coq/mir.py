@@ -19,7 +19,7 @@ class Crate:
     def __init__(self, mir, hir, known):
         declared, self.impls = read_hir(hir)
         self.functions, self.constants = read_mir(self.converted(mir, declared))
-        self.by, self.out, self.titles = {}, [], {}
+        self.by, self.out, self.titles, self.called = {}, [], {}, set()
         self.types = self.Types(self, declared, known)
         self.written = {}
         if any(it.trait == "std::Drop" for it in self.impls):
@@ -70,6 +70,7 @@ class Crate:
             "&mut ")) == type]
         if len(found) != 1:
             raise Unknown(f"the closure {type}")
+        self.called.add(found[0].path)
         return found[0]
 
     def closure(self, type):
