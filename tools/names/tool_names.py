@@ -112,6 +112,8 @@ def tables_of(text, known, wrong):
                   if not there]
         if sum(not patterns for patterns in it.sources.values()) != 1:
             wrong.append(f"elsewhere.tsv: the dialect {it.name} needs one line `# from` with a source and no patterns")
+    parts = [meaning.split("-") for _, meaning, way in found.dialects["rust"].rows if way in ("Both", "Read")]
+    found.words["custom"] = sorted({it[1] for it in parts if len(it) > 2}.difference(*known.values()))
     return found
 
 
@@ -456,7 +458,8 @@ def files(tables, types):
         lines += ["    },"]
     lines += ["];", *texts("MAKERS", "maker"), *texts("KERNELS", "kernel"), *texts("NOT_MACHINES", "notmachine"),
               *texts("NOT_SYSTEMS", "notsystem"), *texts("OTHER_MAKERS", "othermaker"),
-              *texts("NO_VENDORS", "novendor"), *texts("OTHER_WORDS", "otherword"), "",
+              *texts("NO_VENDORS", "novendor"), *texts("OTHER_WORDS", "otherword"),
+              *texts("CUSTOM_VENDORS_OF_RUSTC", "custom"), "",
               "pub(crate) static SYSTEMS: &[(&str, &str)] = systems![",
               *filled([f'"{it}"' for it in words["system"]], " ", "    "), "];", "",
               "/// What words say, in the order of the bytes of the words.",

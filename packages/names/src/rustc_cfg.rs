@@ -2,7 +2,7 @@
 //! rustc for those of each of its targets.
 use crate::driver::macos_version;
 use crate::shape::library_and_abi;
-use crate::Dialect;
+use crate::table::CUSTOM_VENDORS_OF_RUSTC;
 use core::fmt;
 use target_lexicon::{
     Aarch64Architecture, Architecture, ArmArchitecture, Endianness, Environment, KnownVendor, Mips32Architecture,
@@ -234,8 +234,7 @@ fn target_vendor<'a>(triple: &TripleRef<'a>) -> &'a str {
 /// ```
 #[must_use]
 pub fn is_vendor_of_rustc(vendor: &str) -> bool {
-    let mut triples = Dialect::Rust.rows_read().filter_map(|row| TripleRef::from_str(row.1).ok());
-    triples.any(|it| it.vendor == VendorRef::Custom(vendor))
+    CUSTOM_VENDORS_OF_RUSTC.contains(&vendor)
 }
 
 /// The string that LLVM and clang take for a target, which is displayed. It is rustc's `llvm-target` for each of its

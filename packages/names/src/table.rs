@@ -2336,6 +2336,11 @@ pub(crate) static OTHER_WORDS: &[&str] = &[
     "mpe", "threadx", "windowsce", "wali",
 ];
 
+pub(crate) static CUSTOM_VENDORS_OF_RUSTC: &[&str] = &[
+    "esp", "esp32", "esp32s2", "esp32s3", "mti", "nuttx", "openwrt", "rtems", "sony", "unikraft", "wali", "wasip3",
+    "win7",
+];
+
 pub(crate) static SYSTEMS: &[(&str, &str)] = systems![
     "386bsd" "abug" "acis" "amigados" "amigaos" "aof" "aos" "aout" "aros" "atheos" "auroraux" "aux" "beos" "bluegene"
     "bme" "bosx" "bsd" "cegcc" "chorusos" "chorusrdb" "clix" "cnk" "conix" "ctix" "cxux" "dgux" "dicos" "dnix"
