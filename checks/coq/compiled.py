@@ -156,16 +156,20 @@ def same_in_build_script(folder, features, main):
 
 
 def source(root, known):
-    """The crate as its main configuration has it, with debug assertions or without, and with features that add."""
+    """The crate as its main configuration has it, which is read first; then the same with debug assertions or without,
+    and with features that add."""
     folder = root.resolve() / "packages/rust"
     check_manifest(root)
     found = rustc(folder, *WAYS[0])
+    crate = crate_of(found, known)
+    if unknown := [f"{why} (in {it})" for it, why in all_of(crate).items() if it not in LEFT_OUT]:
+        raise Untranslated(unknown[0])
     main = compared(*found)
     for features, older in WAYS:
         same(main, rustc(folder, features, older, RELEASE), f"with {' '.join(features)}, older: {older}")
         if older:
             same_in_build_script(folder, features, main)
-    return crate_of(found, known)
+    return crate
 
 
 def text_at(place):
