@@ -3,7 +3,6 @@
 mod conclusions;
 mod counted;
 mod faulty;
-mod filters;
 mod rows;
 
 use crate::counted::Counted;
@@ -23,18 +22,22 @@ const _: () = prove!(size_of::<Counted<Vec<u8>>>() == size_of::<Vec<u8>>());
 /// Two kinds of errors that code may treat in its own way.
 const SPECIAL_KINDS: [ErrorKind; 2] = [ErrorKind::Interrupted, ErrorKind::BrokenPipe];
 
-/// The outcome of a run or a filter, its reads, writes and flushes, and how many bytes were kept; `None` if these
-/// aren't a beginning of the output.
-type Trace<E> = Option<(Result<(), E>, usize, usize, u32, usize)>;
+/// The outcome of a run, its reads, writes and flushes, and how many bytes were kept; `None` if these aren't a beginning
+/// of the output.
+type Trace = Option<(Result<(), RunError>, usize, usize, u32, usize)>;
 
-fn trace<E: Copy>(
-    outcome: Result<(), E>,
-    reader: Counted<Faulty<'_>>,
-    writer: Counted<Faulty<'_>>,
-    output: &[u8],
-) -> Trace<E> {
+fn run_trace(
+    alloc: Global,
+    mode: Mode,
+    reader: Faulty<'_>,
+    writer: Faulty<'_>,
+    output: &str,
+) -> Trace {
+    let mut reader = Counted::new(reader);
+    let mut writer = Counted::new(writer);
+    let outcome = run(alloc, mode, &mut reader, &mut writer);
     let writer = writer.into_inner();
-    if !output.starts_with(&writer.kept) {
+    if !output.as_bytes().starts_with(&writer.kept) {
         return None;
     }
     let kept = writer.kept.len();
@@ -45,19 +48,6 @@ fn trace<E: Copy>(
         writer.flushes,
         kept,
     ))
-}
-
-fn run_trace(
-    alloc: Global,
-    mode: Mode,
-    reader: Faulty<'_>,
-    writer: Faulty<'_>,
-    output: &str,
-) -> Trace<RunError> {
-    let mut reader = Counted::new(reader);
-    let mut writer = Counted::new(writer);
-    let outcome = run(alloc, mode, &mut reader, &mut writer);
-    trace(outcome, reader, writer, output.as_bytes())
 }
 
 /// The run ends at the read that fails: it reads no more and writes nothing. The last read finds the end of the input.

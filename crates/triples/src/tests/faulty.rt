@@ -11,7 +11,7 @@ use std::{fmt, io};
 pub(super) struct Faulty<'a> {
     rest: &'a [u8],
     pub kept: Vec<u8>,
-    pub most: usize,
+    most: usize,
     pub fault_at: usize,
     fault: Option<ErrorKind>,
     pub flush: Result<(), ErrorKind>,
