@@ -3,6 +3,7 @@ use crate::calls::commands;
 use clap::builder::PossibleValuesParser;
 use clap::error::ErrorKind;
 use clap::{value_parser, Arg, ArgAction, ArgMatches, Command, ValueHint};
+use std::ffi::OsString;
 use std::num::NonZeroUsize;
 use std::path::PathBuf;
 use target_names::{ChosenLibc, Dialect};
@@ -31,9 +32,10 @@ pub fn libc() -> Arg {
             "glibc", "musl", "msvc", "mingw", "gnullvm",
         ]))
         .action(ArgAction::Append)
+        .value_delimiter(',')
         .hide_possible_values(true)
         .help("The C library if none is stated: glibc, musl, msvc, mingw, gnullvm")
-        .long_help(wrapped("The C library of targets that state none: on Linux glibc or musl, on Windows msvc, mingw or gnullvm. One of each system may be given"))
+        .long_help(wrapped("The C library of targets that state none: on Linux glibc or musl, on Windows msvc, mingw or gnullvm. One of each may be given, with a comma between"))
 }
 
 /// Whether a C library is one of Windows.
@@ -116,6 +118,7 @@ pub fn of_targets(name: &'static str, about: &'static str, example: &'static str
         Arg::new("target")
             .value_name("TARGET")
             .action(ArgAction::Append)
+            .value_parser(value_parser!(OsString))
             .value_hint(ValueHint::AnyPath)
             .help("Targets, or files and folders, in whose texts they are found")
             .long_help(wrapped("Targets, also with commas between; or files of any kind, such as workflows, and folders, in whose texts they are found; `-` is the lines of standard input, which are read without a TARGET or FILE too")),
@@ -128,6 +131,9 @@ pub fn of_targets(name: &'static str, about: &'static str, example: &'static str
             .value_hint(ValueHint::FilePath)
             .help("Answer for each line of FILE too; `-` is standard input")
             .long_help(wrapped("Answer for the lines of FILE too, which are all targets, blank lines and comments apart; `-` is standard input. May be given more than once")),
+        flag("paths", "Take each TARGET as the path of a text or a folder, also if it is a name")
+            .requires("target")
+            .hide_short_help(true),
         Arg::new("first-line")
             .long("first-line")
             .value_name("N")

@@ -89,7 +89,7 @@ impl Helper {
         }
         let note = match target.place {
             _ if text.contains('\0') && !self.has_zero_bytes => {
-                "it has zero bytes: a file in UTF-16 has them, which must be UTF-8 here"
+                "it has zero bytes: `-0` reads what ends with one, and UTF-16 must be UTF-8 here"
             }
             _ if self.takes == Takes::Spellings && text.contains('/') => "a name of another tool needs `--from`",
             Place::Argument(_) if self.takes != Takes::Spellings && has_extension(text) => {

@@ -5,6 +5,7 @@ use crate::output::say_what_is_read;
 use crate::shown::visible;
 use crate::streams::{self, Input};
 use clap::ArgMatches;
+use std::ffi::OsString;
 use std::fs::{self, DirEntry};
 use std::io::{self, BufRead, BufReader, ErrorKind};
 use std::num::NonZeroUsize;
@@ -97,16 +98,21 @@ fn each_in_texts(path: &Path, answers: &mut impl Answers) -> Result<(), Fault> {
         let (kind, path) = (entry.file_type().map_err(fault)?, entry.path());
         let is_source = || !NO_SOURCES.iter().any(|it| entry.file_name() == *it) && !path.join("CACHEDIR.TAG").exists();
         if kind.is_file() || kind.is_dir() && is_source() {
-            match each_in_texts(&path, answers) {
-                Err(Fault::Stream { name, why }) if name == path.display().to_string() => {
-                    answers.skip_unread(Fault::Stream { name, why })?;
-                }
-                Err(Fault::NotText { .. }) => answers.skip_binary(),
-                ended => ended?,
-            }
+            each_of_path(&path, answers)?;
         }
     }
     Ok(())
+}
+
+/// As [`each_in_texts`], but what can't be read is said, and what is no text is counted.
+fn each_of_path(path: &Path, answers: &mut impl Answers) -> Result<(), Fault> {
+    match each_in_texts(path, answers) {
+        Err(Fault::Stream { name, why }) if name == path.display().to_string() => {
+            answers.skip_unread(Fault::Stream { name, why })
+        }
+        Err(Fault::NotText { .. }) => Ok(answers.skip_binary()),
+        ended => ended,
+    }
 }
 
 /// The bytes of a file, unless one of them is zero: then it is no text, and isn't read further. In UTF-16 it is refused.
@@ -192,7 +198,7 @@ pub fn each_target(arguments: &ArgMatches, answers: &mut impl Answers) -> Result
         first: arguments.get_one("first-line").map_or(1, |it: &NonZeroUsize| it.get()),
         are_kept: keeps_lines(arguments),
     };
-    let targets = arguments.get_many::<String>("target").unwrap_or_default();
+    let targets = arguments.get_many::<OsString>("target").unwrap_or_default();
     let files = arguments.get_many::<PathBuf>("file").unwrap_or_default();
     if targets.len() + files.len() == 0 {
         if !arguments.get_flag("quiet") {
@@ -200,14 +206,20 @@ pub fn each_target(arguments: &ArgMatches, answers: &mut impl Answers) -> Result
         }
         return each_line(Path::new("-"), lines, answers);
     }
-    for (text, number) in targets.zip(1..) {
-        match text.as_str() {
-            "-" => each_line(Path::new("-"), lines, answers)?,
-            text if is_path(text) => each_in_texts(Path::new(text), answers)?,
-            text => {
+    for (argument, number) in targets.zip(1..) {
+        let path = Path::new(argument);
+        match argument.to_str() {
+            _ if arguments.get_flag("paths") => each_of_path(path, answers)?,
+            Some("-") => each_line(Path::new("-"), lines, answers)?,
+            Some(text) if !is_path(text) => {
                 let place = Place::Argument(number);
                 each_of_list(Target { text, place, word: None }, answers)?;
             }
+            _ if lines.are_kept => {
+                let why = io::Error::new(ErrorKind::Other, "`--keep-lines` is for lines, which `-f` reads");
+                return Err(Fault::Stream { name: path.display().to_string(), why });
+            }
+            _ => each_in_texts(path, answers)?,
         }
     }
     for file in files {
@@ -217,12 +229,14 @@ pub fn each_target(arguments: &ArgMatches, answers: &mut impl Answers) -> Result
 }
 
 /// Whether an argument is no name of any tool, and is the path of a file or a folder. With a custom vendor it is no name
-/// if it is the path of a file with an extension, as `arm-build.sh` may be.
+/// if it is the path of a file with an extension, as `arm-build.sh` may be. A folder is no tool: `./x86_64-linux`.
 fn is_path(text: &str) -> bool {
     let path = Path::new(text);
     let is_file = || path.extension().is_some() && path.is_file();
+    let is_folder = || [".", "..", "/"].iter().any(|it| path.starts_with(it)) && path.is_dir();
     let has_custom_vendor = |it: Meaning<'_>| it.sense.map_or(false, |it| it.triple.vendor.is_custom());
-    path.exists() && (meanings(text).next().is_none() || is_file() && meanings(text).all(has_custom_vendor))
+    let is_name = || meanings(text).next().is_some() && !(is_file() && meanings(text).all(has_custom_vendor));
+    path.exists() && (is_folder() || !is_name())
 }
 
 /// What ends a line, and the answer to it.

@@ -62,11 +62,12 @@ impl<'a> Refusal<'a> {
         Refusal { field: Some(Field::Vendor), names: Names::OfVendors(triple), ..Refusal::new("custom vendor", part) }
     }
 
-    /// A warning that a name says a level of its machine, which no triple does.
+    /// A warning that a name says a level of its machine, or means it, which its triple doesn't.
     pub fn of_level(text: &'a str, level: &str) -> Self {
         let part = text.rfind(level).map(|start| TextPart { text: &text[start..][..level.len()], start });
-        let whole = TextPart { text, start: 0 };
-        Refusal { is_warning: true, ..Refusal::new("no triple has the level", part.unwrap_or(whole)) }
+        let whole = || Refusal::of_all(format!("the triple doesn't state the level {level} of"), text);
+        let refusal = part.map_or_else(whole, |part| Refusal::new("the triple doesn't state the level", part));
+        Refusal { is_warning: true, ..refusal }
     }
 
     /// A line with bytes that aren't UTF-8. It is shown with U+FFFD for them, of which the first is where it ends to be
@@ -176,6 +177,7 @@ impl Refusal<'_> {
             let columns = |text: &str| text.chars().count();
             let column = indent + columns(&target.text[..self.part.start]) + 1;
             let end = column + columns(self.part.text);
+            let file = file.strip_prefix("./").unwrap_or(file); // as GitHub names it
             show!(page, " file=", escaped(&file), ",line=", number, ",col=", column, ",endColumn=", end)?;
         }
         let (part, text) = (visible(self.part.text).shortened(), visible(target.text).shortened());

@@ -10,6 +10,7 @@ use crate::reader::Reader;
 use crate::refusal::Refusal;
 use crate::shown::show;
 use clap::ArgMatches;
+use std::ffi::OsString;
 use std::num::NonZeroUsize;
 
 pub struct Run<'a> {
@@ -147,7 +148,7 @@ impl<'a> Run<'a> {
         }
         let is_refused = self.progress.refused > 0;
         self.call.end(&mut self.outputs, !is_refused && self.unread == 0 && !self.is_quiet)?;
-        let texts = arguments.get_many::<String>("target").unwrap_or_default().filter(|it| *it != "-").count();
+        let texts = arguments.get_many::<OsString>("target").unwrap_or_default().filter(|it| *it != "-").count();
         self.note(self.progress.targets == 0 && texts > 0)?;
         self.summarize(false)?;
         Ok(self.unread.max(i32::from(is_refused)))

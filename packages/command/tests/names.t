@@ -39,7 +39,7 @@ One C library of each system may be said, and two of one system are no choice:
   $ target-lexicon translate --from oci --to rust --libc musl --libc msvc linux/amd64,windows/amd64
   x86_64-unknown-linux-musl
   x86_64-pc-windows-msvc
-  $ target-lexicon settle --libc mingw --libc glibc x86_64-linux x86_64-pc-windows
+  $ target-lexicon settle --libc mingw,glibc x86_64-linux x86_64-pc-windows
   x86_64-unknown-linux-gnu
   x86_64-pc-windows-gnu
   $ for libcs in 'glibc --libc musl' 'msvc --libc mingw'; do target-lexicon settle --libc $libcs avr | head -n 1; done
@@ -263,15 +263,17 @@ A C library that changes nothing is noted, unless nothing is answered or asked:
     is x86_64-unknown-linux-gnu of the level v3, as oci
       debian  amd64v3
       oci     linux/amd64/v3
-      -       go, python, rust, dotnet, conda, zig, nix: packages and targets of the tool are for another version of the machine: armhf of Debian is for Armv7 and armel for Armv5, x86 of Alpine is for the i586
+      -       go, python, rust, dotnet, conda, zig, nix: the tool's names for it are for another version or level of the machine, as Debian's armhf is for Armv7
   $ target-lexicon matrix --from oci linux/amd64/v3 linux/amd64
   x86_64-unknown-linux\tlinux/amd64/v3\t2\targument:1 (esc)
-  ! warning: no triple has the level `v3`
+  ! warning: the triple doesn't state the level `v3`
   !   linux/amd64/v3
   !               ^^
+  $ target-lexicon settle --from rust arm-unknown-linux-gnueabihf | grep warning
+  ! warning: the triple doesn't state the level armv6 of `arm-unknown-linux-gnueabihf`
   $ echo 'run: docker build --platform linux/amd64/v3 .' > level; target-lexicon settle level; target-lexicon check level
   x86_64-unknown-linux
-  ! level:1:42: warning: no triple has the level `v3`
+  ! level:1:42: warning: the triple doesn't state the level `v3`
   !   linux/amd64/v3
   !               ^^
   $ target-lexicon what linux/amd46

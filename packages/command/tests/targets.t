@@ -158,6 +158,27 @@ An argument that is the path of a file is a text, in which targets are found. A 
   $ printf 'caf\xe9: x86_64-linux-gnuu\n' > bytes; target-lexicon check bytes | head -n 1
   ! bytes:1:20: error: unrecognized environment `gnuu`
 
+`--paths` takes each argument as a path, as hooks need it; so is a folder from `./` on, and what isn't UTF-8. A text isn't read by `--keep-lines`:
+
+  $ mkdir z80; echo 'on: x86_64-linux-gnuu' | tee amd64 ./- $'caf\xe9' > z80/it
+  $ target-lexicon check --paths amd64 nowhere utf16/it - | grep -v '^!  '
+  ! amd64:1:18: error: unrecognized environment `gnuu`
+  ! target-lexicon: nowhere: No such file or directory (os error 2)
+  ! -:1:18: error: unrecognized environment `gnuu`
+  ! note: 1 binary file not read
+  ! 2 of 2 targets refused
+  $ target-lexicon check --paths nowhere utf16 2>&1 | cat; target-lexicon check --paths > /dev/null
+  ! target-lexicon: nowhere: No such file or directory (os error 2)
+  ! note: 1 binary file not read
+  [2]
+  $ target-lexicon check --format github ./z80 z80 $'caf\xe9'; rm amd64 ./- caf*
+  ::error file=z80/it,line=1,col=18,endColumn=22::unrecognized environment `gnuu` of `x86_64-linux-gnuu`: did you mean `gnu`?
+  ::error file=caf\u{fffd},line=1,col=18,endColumn=22::unrecognized environment `gnuu` of `x86_64-linux-gnuu`: did you mean `gnu`?
+  ! 2 of 3 targets refused
+  $ target-lexicon settle --keep-lines rust-toolchain.toml
+  ! target-lexicon: rust-toolchain.toml: `--keep-lines` is for lines, which `-f` reads
+  [3]
+
 An unknown environment after a machine and a system is wrong, and so is what is one edit from any tool's name. What may be a target is counted. Names of tools are right, with something after them too, and labels of runners are no targets:
 
   $ cat > words.yml << 'END'
@@ -191,6 +212,8 @@ An unknown environment after a machine and a system is wrong, and so is what is 
   ! words.yml:3:12: error: no tool has the name `linux/aarch46`
   ! words.yml:3:44: error: no tool has the name `linux/am6d4`
   ! 6 of 10 targets refused
+  $ target-lexicon check words.yml | grep -m 1 -o 'mean `gnue.*'
+  mean `gnueabihf`?
   $ target-lexicon check more.yml | grep -v '^!   '
   ! more.yml:1:12: error: no tool has the name `macsx_11_0_arm64`
   ! more.yml:2:8: error: no tool has the name `amd46`
@@ -302,7 +325,7 @@ The others are answered:
   ! <stdin>:1:1: error: unrecognized architecture `z\u{0}8\u{0}0\u{0}`
   !   z\u{0}8\u{0}0\u{0}
   !   ^^^^^^^^^^^^^^^^^^
-  !   note: it has zero bytes: a file in UTF-16 has them, which must be UTF-8 here
+  !   note: it has zero bytes: `-0` reads what ends with one, and UTF-16 must be UTF-8 here
   [1]
 
 ## A quiet run

@@ -118,7 +118,7 @@ pub enum WriteError {
     NeedsWasiVersion,
     /// No version of its system or C library has these numbers: glibc has 2.x, musl 1.x, and macOS 10.x or later.
     OtherVersion,
-    /// Packages and targets of the tool are for another version of the machine: armhf of Debian is for Armv7 and armel for Armv5, x86 of Alpine is for the i586.
+    /// The tool's names for it are for another version or level of the machine, as Debian's armhf is for Armv7.
     Baseline,
     /// The tool's name without `sim` is that of the simulator: say the triple without it.
     Simulator,
@@ -140,7 +140,7 @@ pub(crate) const WRITE_REASONS: [&str; 15] = [
     "the name states a version: say that of the system or C library, such as 11.0 of macOS",
     "it depends on the version of WASI: say wasm32-wasip1, which rustc named wasm32-wasi before, or wasm32-wasip2",
     "no version of its system or C library has these numbers: glibc has 2.x, musl 1.x, and macOS 10.x or later",
-    "packages and targets of the tool are for another version of the machine: armhf of Debian is for Armv7 and armel for Armv5, x86 of Alpine is for the i586",
+    "the tool's names for it are for another version or level of the machine, as Debian's armhf is for Armv7",
     "the tool's name without `sim` is that of the simulator: say the triple without it",
     "its vendor says that it is another target, such as `uwp`, or a system that no triple has: say the usual vendor if that is meant",
 ];

@@ -68,7 +68,8 @@ impl<'a> Word<'a> {
             (_, WordIs::Misspelled(it)) if it.part.text == text => return Verdict::Unknown(Some(it)),
             _ => {}
         }
-        let near = || if matches!(is, WordIs::Misspelled(_)) { None } else { self.near() };
+        // To look for what is near takes longer than all else.
+        let near = || if is_known || matches!(is, WordIs::Misspelled(_)) { None } else { self.near() };
         match (own, near()) {
             (Err(refusal), Some(meant))
                 if refusal.part.start == 0 || meant.is_some() && refusal.suggestion_in(text).is_none() =>
