@@ -53,8 +53,9 @@ class NoCompiler(Untranslated):
 
 
 def rustc(folder, features, older=False, *words, root="src/lib.rs"):
-    """MIR and HIR of the crate in a folder, with these features, if nothing else decides what rustc compiles: in `/`
-    it takes no toolchain that a file above the folder names. For an older one the path begins with `./`."""
+    """MIR and HIR of the crate in a folder with these features, of its build script only MIR, if nothing else decides what
+    rustc compiles: in `/` it takes no toolchain that a file above the folder names. For an older one the path begins
+    with `./`."""
     if not shutil.which("rustc"):
         raise NoCompiler("rustc isn't on the path, so that nothing is proved of its MIR; all else is")
     with tempfile.TemporaryDirectory(prefix="mir-") as out:
@@ -66,16 +67,17 @@ def rustc(folder, features, older=False, *words, root="src/lib.rs"):
             subprocess.run(["rustc", "--crate-name=serde", "--edition=2021", "--crate-type=lib", "--emit=metadata",
                             f"-o{serde}", HERE / "serde.rs"], cwd="/", check=True)
             words.append(f"--extern=serde={serde}")
-        for of in ([f"--emit=mir={out}/mir,dep-info={out}/read", f"--out-dir={out}"],
-                   ["-Zunpretty=hir-tree", f"-o{out}/hir"],
-                   ["-Zunpretty=expanded", f"-o{out}/expanded", "-Ztrace-macros"]):
+        for of in (["-Zunpretty=hir-tree", f"-o{out}/hir"],
+                   [f"--emit=mir={out}/mir,dep-info={out}/read", f"--out-dir={out}"],
+                   ["-Zunpretty=expanded", f"-o{out}/expanded", "-Ztrace-macros"])[root == "build.rs":]:
             ran = subprocess.run(["rustc", *words, *of], cwd="/", capture_output=True, text=True,
                                  env={**os.environ, "RUSTC_BOOTSTRAP": "1", "OUT_DIR": out})
             if ran.returncode or "is unknown and will be ignored" in ran.stderr:  # a pass of MIR
                 raise Untranslated(f"rustc doesn't write the MIR of {folder}: {' '.join(ran.stderr.split())[:300]}")
         if root != "build.rs" and re.search(r"\bcfg", ran.stderr):  # which says what each macro is called with, and is
             raise Untranslated("a macro has a configuration, which could be another one")
-        mir, hir, read, expanded = (Path(out, it).read_text(encoding="utf-8") for it in "mir hir read expanded".split())
+        mir, read, expanded = (Path(out, it).read_text(encoding="utf-8") for it in "mir read expanded".split())
+        hir = root != "build.rs" and Path(out, "hir").read_text(encoding="utf-8")
     if names := {*re.findall(r"^# env-dep:([^=\n]*)", read, re.M)} - {"OUT_DIR"}:
         raise Untranslated(f"a variable of the environment, {min(names)}, is read when the crate is compiled")
     files = {Path("/", it.replace("\\ ", " ")) for it in re.findall("^(\\S.*):$", read, re.M)}

@@ -1,6 +1,7 @@
 """Reads the MIR that rustc prints, and of its HIR what is declared. A form that isn't known is an error.
 
 A place is a local and its projections: ("*",), (".", index, type), ("as", variant), ("[]", local), ("[c]", index)."""
+import functools
 import re
 from collections import namedtuple
 
@@ -219,6 +220,7 @@ def impl(path, crate, block):
                 re.findall(r"owner_id: DefId\(\S+ ~ \S+::(\w+)\),", items), at[1])
 
 
+@functools.lru_cache(2)
 def read_hir(text):
     """The fields of each struct, the variants of each enum with their number of fields, and the impls. What is in a
     part of an item, which has 24 spaces before it, is in its line, without places."""
@@ -239,7 +241,7 @@ def read_hir(text):
         if "#" in re.sub(r"\{\w+#\d+\}", "", path) or path in paths:
             raise Unknown(f"{path}, which isn't the only one of its path")
         paths.add(path)
-        flat = re.sub(r"\s+", " ", block)
+        flat = f"{' '.join(block.split())} "
         for form, what in REFUSED.items():
             if re.search(form.replace("CRATE", crate), flat):
                 raise Unknown(f"{what}, in {path}")
