@@ -492,7 +492,11 @@ static bool fits(const struct row *row, size_t kept, size_t room) {
   return kept + next < room;
 }
 
-/* Makes the call of a row with a buffer of exactly the size, each smaller one, none, and one that no memory has. */
+/* Makes the call of a row with a buffer of exactly the size, each smaller one, or each so many-th, none, and one that no
+   memory has. */
+#ifndef ROOMS
+#define ROOMS 1
+#endif
 static void try_row(const struct row *row) {
   struct asked it = asked_of(row->text);
   memcpy(it.numbers, row->numbers, sizeof it.numbers);
@@ -510,7 +514,7 @@ static void try_row(const struct row *row) {
   length = 0;
   EXPECT(row->call(&it, NULL, 0, &length) == LEXICON_TOO_SMALL && length == size);
   EXPECT(row->call(&it, out, sizeof out, NULL) == LEXICON_OK);
-  for (size_t room = 1; room <= size; room++) {
+  for (size_t room = 1; room <= size; room += ROOMS) {
     fill(out, sizeof out);
     length = 0;
     EXPECT(row->call(&it, out, room, &length) == LEXICON_TOO_SMALL && length == size);
