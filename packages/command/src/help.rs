@@ -5,6 +5,7 @@ use crate::reader::{Reader, Takes};
 use crate::refusal::{Names, Refusal};
 use clap::ArgMatches;
 use std::collections::HashMap;
+use std::path::Path;
 use target_lexicon::TripleRef;
 use target_names::{readers, vendor_suggestion, Dialect, Meant, Mistake, NameOf, Note, Sense, Suggest as _};
 
@@ -77,6 +78,9 @@ impl Helper {
     /// What is known of the target, whatever names it resembles.
     fn note(&self, target: Target<'_>) -> Option<String> {
         let text = target.text.trim();
+        if matches!(target.place, Place::Argument(_)) && Path::new(text).exists() {
+            return Some("a file or a folder has this name, which `--paths` reads".into());
+        }
         let of_other_tools = match self.takes {
             Takes::Triples if TripleRef::from_str(text).is_err() => {
                 readers_note(&format!("target-lexicon {} ", self.command), text)

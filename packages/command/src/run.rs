@@ -148,15 +148,15 @@ impl<'a> Run<'a> {
         }
         let is_refused = self.progress.refused > 0;
         self.call.end(&mut self.outputs, !is_refused && self.unread == 0 && !self.is_quiet)?;
-        let texts = arguments.get_many::<OsString>("target").unwrap_or_default().filter(|it| *it != "-").count();
-        self.note(self.progress.targets == 0 && texts > 0)?;
+        let has_text = arguments.get_many::<OsString>("target").unwrap_or_default().any(|it| it != "-");
+        self.note(if has_text { "no targets found; `-f FILE` takes each line as one" } else { "no targets read" })?;
         self.summarize(false)?;
         Ok(self.unread.max(i32::from(is_refused)))
     }
 
-    /// Says whether texts have no targets, what wasn't understood or read, and whether each answer is the same without
+    /// Says whether there were no targets, what wasn't understood or read, and whether each answer is the same without
     /// the C library that is said.
-    fn note(&mut self, finds_none: bool) -> Result<(), Fault> {
+    fn note(&mut self, none: &str) -> Result<(), Fault> {
         let has_answer = self.progress.targets > self.progress.refused;
         let libc = self.reader.needless_libc().filter(|_| has_answer);
         let libc = libc.map(|it| format!("`--libc {it}` isn't needed: without it the answers are the same"));
@@ -170,8 +170,7 @@ impl<'a> Run<'a> {
             };
             format!("{unclear} {words} {are} understood: --strict shows each")
         });
-        let none = "no targets found; `-f FILE` takes each line as one";
-        let none = (finds_none && binary == 0).then(|| none.to_string());
+        let none = (self.progress.targets == 0 && binary == 0).then(|| none.to_string());
         for note in none.into_iter().chain(words).chain(files).chain(libc).filter(|_| !self.is_quiet) {
             self.outputs.refuse(|page, _| show!(page, "note: ", note, "\n"))?;
         }

@@ -66,7 +66,7 @@ It has the names that facts have elsewhere:
 
 It is an array, or lines:
 
-  $ for call in explain facts settle check matrix; do target-lexicon $call --json; target-lexicon $call --json-lines; done < /dev/null | uniq -c
+  $ for call in explain facts settle check matrix; do target-lexicon $call --json; target-lexicon $call --json-lines; done < /dev/null | grep -v '^!' | uniq -c
         5 []
   $ printf 'z80\nfoo\nx86_64-linux\n' > lines
   $ target-lexicon settle --json -f lines

@@ -26,7 +26,8 @@ A run ends without a word if its reader has closed. What can't be written is a f
   >   for call in 'check z80' 'check foo' 'settle foo' 'settle -x'; do $program $call 2> /dev/null; echo "$call: $?" >&2; done
   > }
   $ for how in '>&-' '1< /dev/null' '> /dev/full' '1<> /dev/null'; do eval "{ calls $how; } 2>&1"; done | LC_ALL=C sort | uniq -c
-       10 0 
+        9 0 
+        1 0 note: no targets read
        20 3 target-lexicon: standard output: Bad file descriptor (os error 9)
        10 3 target-lexicon: standard output: No space left on device (os error 28)
         4 check foo: 1
@@ -157,3 +158,4 @@ A call at a terminal says what it reads:
   settle -: 0
   settle avr: 0
   $ target-lexicon settle < /dev/null
+  ! note: no targets read

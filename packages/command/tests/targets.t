@@ -171,6 +171,8 @@ An argument that is the path of a file is a text, in which targets are found. A 
   ! target-lexicon: nowhere: No such file or directory (os error 2)
   ! note: 1 binary file not read
   [2]
+  $ target-lexicon check amd64 | tail -n 1
+  !   note: a file or a folder has this name, which `--paths` reads
   $ target-lexicon check --format github ./z80 z80 $'caf\xe9'; rm amd64 ./- caf*
   ::error file=z80/it,line=1,col=18,endColumn=22::unrecognized environment `gnuu` of `x86_64-linux-gnuu`: did you mean `gnu`?
   ::error file=caf\u{fffd},line=1,col=18,endColumn=22::unrecognized environment `gnuu` of `x86_64-linux-gnuu`: did you mean `gnu`?

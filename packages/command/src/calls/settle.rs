@@ -12,7 +12,7 @@ pub fn command() -> Command {
     )
     .args([from(), libc()])
     .arg(flag("changes", "As --from llvm, and show which parts are read as others").conflicts_with("from"))
-    .arg(flag("keep-lines", "Write a line for each line of FILE, empty if it has no answer"))
+    .arg(flag("keep-lines", "Write a line for each line of FILE, empty if it has no answer").conflicts_with("paths"))
 }
 
 pub struct Settle {
