@@ -118,8 +118,8 @@ ROWS = {"proved": [[PROOFS], [
      'umask 077; checks/gate/planted tools/release "$WORK/release" "$WORK/web" && '
      'tar xzf "$WORK"/release/target-lexicon-c-*.tar.gz -C "$BUILT" --strip-components=1', "cargo cc",
      "rust rust/README.md names c command python python/README.md javascript javascript/README.md comparisons"),
-    ("what other tools say of names and targets; suggestions keep the machine, at a third of the edits, others on each "
-     "day", "checks/compare elsewhere && checks/compare llvm && checks/compare suggestions --share 3", "cargo cc",
+    ("what other tools say of names and targets; suggestions keep the machine, at a sixth of the edits, others on each "
+     "day", "checks/compare elsewhere && checks/compare llvm && checks/compare suggestions --share 6", "cargo cc",
      "rust names c comparisons"),
     ("the Python package: each answer, wheels, types, samples",
      'packages/python/test "$BUILT/lib/libtarget_lexicon.so" "$BUILT/bin/lines"',
