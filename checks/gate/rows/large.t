@@ -89,15 +89,3 @@ A matrix has each refusal, but each text once:
   $ while read -r line; do echo "$line" | as_list | triples json; done < long | cmp - <(triples print < long | sed '/^error: /!s/.*/["&"]/; s/^error: /&Element 0: /')
   $ { printf '["x86_64-'; repeated a 1000000 | sed 's/a/\\u0061/g'; printf -- '-linux"]'; } | triples json | shortened
   ["x86_64-a*1000000-linux"]
-
-## Not UTF-8
-
-Nothing is written before all is read:
-
-  $ for mode in print show settle json matrix; do
-  >   for text in '\xff' 'x86_64\n\xc3' 'x86_64-unknown-linux\n\xed\xa0\x80'; do printf "$text" | triples $mode; done
-  >   { repeated a 999999; printf '\xc3'; } | triples $mode
-  >   { yes x86_64 | head -n 140000; printf '\xff'; } 2> /dev/null | triples $mode
-  > done | sort | uniq -c
-       25 fault: Input is not UTF-8
-       25 status 1
