@@ -24,7 +24,6 @@ BY_HAND = {"slice_get", "without_leading_plus"}
 TAKEN = set("""fun let in if then else match with end forall exists return as fix cofix for where Type Prop Set list
     option bool string map length fst snd codes at using struct mod values prod sum pair nil cons inl inr left right
     true false tt""".split())
-WIDTH = 120
 
 
 def split_arrows(text):
@@ -49,21 +48,7 @@ def replaced(it, wholes):
 
 
 def mentions(it, name):
-    return it in (("var", name), ("whole", name)) or isinstance(it, (tuple, list,
-                                                                     dict)) and any(
-        mentions(part, name) for part in parts(it))
-
-
-def folded(line):
-    """A line cut at spaces outside of strings."""
-    words, lines = re.findall(r'(?:"[^"]*"|[^\s"])+', line), []
-    indent = re.match(r" *", line)[0]
-    for word in words:
-        if lines and len(lines[-1]) + 1 + len(word) <= WIDTH:
-            lines[-1] += f" {word}"
-        else:
-            lines.append((f"{indent}  " if lines else indent) + word)
-    return "\n".join(lines)
+    return it in (("var", name), ("whole", name)) or any(mentions(part, name) for part in parts(it))
 
 
 class Coq:
@@ -76,7 +61,7 @@ class Coq:
         self.laws = {law.name: law for law in laws}
         if second := next((law for law in laws if law is not self.laws[law.name]), None):
             raise Untranslated(f"{second.place()}: {second.name}: another crate has a law of this name")
-        self.titles, self.done, self.out = {}, set(), []
+        self.titles, self.done, self.out, self.variables = {}, set(), [], set()
         self.records, self.types_of = {}, {}  # the fields of each record of values; the types of variables
 
     def source(self, wanted):
@@ -93,12 +78,15 @@ class Coq:
                 raise Untranslated(f"no law has the name {name}")
             else:
                 self.need(self.laws[name])
+        others = {*self.titles.values(), *self.names.module(LIBRARY).definitions} - TAKEN
+        if both := [it for it in self.variables if it in others or re.fullmatch(r"(a|whole)\d+", it)]:
+            raise Untranslated(f"a variable has the name of another one, or of a definition, {min(both)}")
         text = "(* Written by checks/theorem from the definitions of crates/*/specs. *)\nRequire Import Kit.\n"
         last = None
         for file, part in self.out:
             text += (f"\n(* {file} *)\n" if file != last else "") + f"\n{part}"
             last = file
-        return "\n".join(map(folded, text.split("\n")))
+        return text
 
     def add(self, file, text):
         self.out.append((file, text))
@@ -114,7 +102,9 @@ class Coq:
         return self.titles[key]
 
     def local(self, name):
-        return name + "_" if name in TAKEN or name == "N" else name
+        """A variable's name in Coq: what ends with ' is no name of the definitions."""
+        self.variables.add(name)
+        return name + "'" if name in TAKEN or name == "N" else name
 
     # ---- types
 

@@ -141,6 +141,8 @@ class Parser:
             found = ("record", None if self.peek() == "{" else self.atom(), self.fields())
         elif token == "[]":
             found = ("nil",)
+        elif token[:1] == '"' and not re.fullmatch(r'"[ !#-[\]-~]*"', token):  # an escape, which Coq doesn't have
+            raise Untranslated(f"the string {token}")
         elif re.match(r'["\w⊤⊥]', token):
             found = ("str", token) if token[0] == '"' else ("num", int(token, 0)) if token[0].isdigit() else (
                 "var", token)
@@ -259,8 +261,14 @@ class Module:
         fields = re.findall(r"^  pub (\w+) : (.*?)(?=^  pub |\Z)", it[3] + "\n", re.M | re.S)
         self.typed[it[1]] = Typed("record", parameters_in(it[2]), fields, self.file, line)
 
+    def declare(self, name, type, local_to=None):
+        if name in self.definitions:  # it would be taken for the other one
+            raise Untranslated(f"{self.file}: a second definition {name}")
+        self.definitions[name] = Definition(self, name, type, local_to)
+        return self.definitions[name]
+
     def read_type(self, it, _line):
-        self.definitions[it[1]] = Definition(self, it[1], it[2])
+        self.declare(it[1], it[2])
 
     def read_clause(self, definition, chunk, line):
         chunk, _, local = chunk.partition("\n  where\n")
@@ -268,8 +276,7 @@ class Module:
         definition.lines.append(line)
         for part, _ in chunks(re.sub(r"^    ", "", local, flags=re.M)):
             if it := re.match(r"(\w+) : (.*)", part, re.S):
-                name = f"{definition.name}_{it[1]}"
-                definition.locals[it[1]] = self.definitions[name] = Definition(self, name, it[2], definition)
+                definition.locals[it[1]] = self.declare(f"{definition.name}_{it[1]}", it[2], definition)
             else:
                 self.read_clause(definition.locals[re.match(r"\w+", part)[0]], part, line)
 
