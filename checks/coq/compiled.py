@@ -8,6 +8,7 @@ import tempfile
 from pathlib import Path
 
 import mir
+import shipped
 from manifest import check_manifest
 from mir_grammar import ITEM, Unknown, plain, read_hir
 from reading import Untranslated
@@ -29,13 +30,7 @@ ATTRIBUTES = "allow automatically_derived coverage doc forbid inline must_use no
 # The functions that aren't written, or aren't those of the source: all of some traits, and these. calls.txt says why.
 UNSAID = ("std::Debug", "std::Eq", "std::Error")
 SERDE = ("std::Serialize", "std::Deserialize")
-LEFT_OUT = {
-    *(f"proved::{it}::host" for it in (
-        "triple::Triple", "architecture::Architecture", "vendor::Vendor", "operating_system::OperatingSystem",
-        "environment::Environment", "binary_format::BinaryFormat")),
-    "<proved::defaults::DefaultToHost as std::Default>::default", "<canonical::NotPlain as std::Display>::fmt",
-    "<parse_triple_error::ParseTripleError as std::Display>::fmt", "parse_triple_error::visible",
-    "< as compat::Chunks>::first_chunk", "< as compat::Chunks>::last_chunk"}  # of older versions of Rust
+LEFT_OUT = {*shipped.LEFT_OUT, "parse_triple_error::visible", "::first_chunk", "::last_chunk"}  # for an older Rust
 # What may decide what is compiled: the features that are tried, and what no build of a user has.
 NAME = r'(?:feature = "(?:alloc|std)"|core_error|docsrs|doctest|test)'
 PREDICATE = r"(?:IT|(?:all|any)\(IT(?:, IT)*\))".replace("IT", rf"(?:{NAME}|not\({NAME}\))")
@@ -53,9 +48,9 @@ class NoCompiler(Untranslated):
 
 
 def rustc(folder, features, older=False, *words, root="src/lib.rs"):
-    """MIR and HIR of the crate in a folder with these features, of its build script only MIR, if nothing else decides what
-    rustc compiles: in `/` it takes no toolchain that a file above the folder names. For an older one the path begins
-    with `./`."""
+    """MIR and HIR of the crate in a folder with these features, of its build script only MIR, if nothing else decides
+    what rustc compiles: in `/` it takes no toolchain that a file above the folder names. For an older one the path
+    begins with `./`."""
     if not shutil.which("rustc"):
         raise NoCompiler("rustc isn't on the path, so that nothing is proved of its MIR; all else is")
     with tempfile.TemporaryDirectory(prefix="mir-") as out:
@@ -74,7 +69,7 @@ def rustc(folder, features, older=False, *words, root="src/lib.rs"):
                                  env={**os.environ, "RUSTC_BOOTSTRAP": "1", "OUT_DIR": out})
             if ran.returncode or "is unknown and will be ignored" in ran.stderr:  # a pass of MIR
                 raise Untranslated(f"rustc doesn't write the MIR of {folder}: {' '.join(ran.stderr.split())[:300]}")
-        if root != "build.rs" and re.search(r"\bcfg", ran.stderr):  # which says what each macro is called with, and is
+        if root != "build.rs" and re.search(r"\bcfg", ran.stderr.replace(str(folder), "").replace(out, "")):  # a call
             raise Untranslated("a macro has a configuration, which could be another one")
         mir, read, expanded = (Path(out, it).read_text(encoding="utf-8") for it in "mir read expanded".split())
         hir = root != "build.rs" and Path(out, "hir").read_text(encoding="utf-8")
@@ -97,17 +92,18 @@ def rustc(folder, features, older=False, *words, root="src/lib.rs"):
     return plain(mir), hir
 
 
-def all_of(crate):
-    """Writes all functions. Returns why some aren't written."""
-    unwritten = {}
+def all_of(crate, left_out=LEFT_OUT):
+    """Writes all functions. Returns why some aren't written that aren't left out."""
+    unwritten, written = {}, set()
     for it in crate.all():
         if it.key[0] in UNSAID:
             continue
         try:
             crate.write(it)
+            written.add(it.path)
         except Unknown as why:
-            unwritten[path(it)] = str(why)
-    written = {it.path for it in crate.all() if it.key[0] not in UNSAID and path(it) not in unwritten}
+            if "::".join((it.key[1].rpartition("::")[2], it.key[2])) not in left_out:
+                unwritten[path(it)] = str(why)
     for it in crate.functions:
         if it.path.partition("::{closure#")[0] in written - {it.path} and it.path not in crate.called:
             unwritten[it.path] = "a closure that nothing calls, of which rustc may have inferred a type"
@@ -122,7 +118,7 @@ def same_without_alloc(root, crate, known):
     same(main, rustc(folder, [], True, RELEASE), "without `alloc`, as for an older rustc")
     same_in_build_script(folder, [], main)
     other = crate_of(found, known)
-    if unknown := {*all_of(other)} - {*LEFT_OUT}:
+    if unknown := all_of(other):
         raise Untranslated(f"{min(unknown)} isn't known without the feature `alloc`")
 
     def written(crate):
@@ -164,8 +160,8 @@ def source(root, known):
     check_manifest(root)
     found = rustc(folder, *WAYS[0])
     crate = crate_of(found, known)
-    if unknown := [f"{why} (in {it})" for it, why in all_of(crate).items() if it not in LEFT_OUT]:
-        raise Untranslated(unknown[0])
+    for it, why in all_of(crate).items():
+        raise Untranslated(f"{why} (in {it})")
     main = compared(*found)
     for features, older in WAYS:
         same(main, rustc(folder, features, older, RELEASE), f"with {' '.join(features)}, older: {older}")

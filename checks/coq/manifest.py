@@ -8,7 +8,8 @@ from reading import Untranslated
 READ = {"build.rs": "61d89edb9d2287e44cacc19e96845b93ea28beefaa2eb1f576504136010c5c53",
         "Cargo.toml": "54c9bf6d598ac3031179f0588023f31f8d13fffb2cbb4f09b102f764ea1f0142"}
 TEXT = r'"[^"\\\n]*"'
-ABOUT = rf"(?!build |edition )[\w-]+ = (?:{TEXT}|\[(?:{TEXT}(?:, )?)*\])\n"
+ABOUT = "(?:authors|categories|description|documentation|include|keywords|license|name|readme|repository|" \
+    rf"rust-version|version) = (?:{TEXT}|\[(?:{TEXT}(?:, )?)*\])\n"
 SETTINGS = ".cargo", "rust-toolchain", "rust-toolchain.toml"
 
 

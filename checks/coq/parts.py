@@ -56,8 +56,7 @@ def told(root, part, name):
         if found:
             comment = re.search(r"((?:\n(?:///|--) .*)*|\n\(\* [^)]* \*\))\Z", before)[0]
             sentence = re.split(r"[.;] |\.$", " ".join(re.sub(r"\n(///|--)|\(\*|\*\)", "", comment).split()))[0]
-            rows = (it.split("\t") for it in COQ.joinpath("calls.txt").read_text(encoding="utf-8").splitlines())
-            calls = ", ".join(it[0] for it in rows if it[-1] == name)
+            calls = ", ".join(it for it, _, of in shipped.listed() if of == name)
             place = file.relative_to(root if file.is_relative_to(root) else COQ.parents[1])
             return f"{place}:{before.count(chr(10)) + 2}", ": ".join(filter(None, (sentence, calls)))
     if name in derived.SAID:

@@ -64,12 +64,6 @@ class Function:
         it.is_seen, it.module = self.is_seen, self.module
         return it
 
-    def takes_self(self):
-        """How it takes `self`, or nothing."""
-        tokens = self.parser.tokens[self.at:]
-        first = tokens[tokens.index("(") + 1:][:3]
-        return first[:first.index("self")] if "self" in first else None
-
     def read(self):
         def own(t):
             return T(self.owner) if t == T("Self") else tuple(own(x) if isinstance(x, tuple) else x for x in t)
@@ -97,8 +91,8 @@ class Function:
 
 
 class Crate:
-    """The items of a crate. Of two functions of a type with one name Rust takes the type's own one, if both take `self`
-    alike: the one of a trait has the trait's name before its own."""
+    """The items of a crate. Of two functions of a type with one name Rust takes the type's own one: the one of a trait
+    has the trait's name before its own."""
 
     def __init__(self, files, features, prefix="rs", parser=Parser, root=None):
         """`files` are pairs of a name and a text. With a root each module of them is read too. The names of what is
@@ -300,8 +294,6 @@ class Crate:
         before = self.functions.get((owner, title))
         if before and bool(trait) != bool(before.trait):
             own, other = (before, f) if trait else (f, before)
-            if p.strict and own.takes_self() != other.takes_self():
-                raise p.unknown(f"{owner}::{name}, of which that of the trait takes another self")
             self.functions[owner, title] = own
             f = other.renamed(self.prefix, f"{other.trait}_{title}")
             before = self.functions.get((owner, f.name))

@@ -16,14 +16,9 @@ CONFIGURATIONS = {
     "rust": (("alloc",), [*PROOFS, "Owned", "Canonical", "Settle"]),
     "no_alloc": ((), [*PROOFS, "Canonical"]),
 }
-# The functions that aren't translated, and why.
-LEFT_OUT = {
-    **{f"{it}::host": "the host is that of the build" for it in (
-        "Triple", "Architecture", "Vendor", "OperatingSystem", "Environment", "BinaryFormat")},
-    "DefaultToHost::default": "the host is that of the build",
-    "NotPlain::fmt": "std's formatting of a debug string",
-    "ParseTripleError::fmt": "escapes of std", "visible": "escapes of std",
-}
+# The functions that aren't translated: the host is that of the build, and std formats or escapes what the others show.
+LEFT_OUT = {*(f"{it}::host" for it in "Triple Architecture Vendor OperatingSystem Environment BinaryFormat".split()),
+            "DefaultToHost::default", "NotPlain::fmt", "ParseTripleError::fmt", "visible"}
 
 
 def texts(files, root):
@@ -66,6 +61,38 @@ def configurations(root, known):
         check(crate, problems, LEFT_OUT)
         found[name] = crate, code
     return found
+
+
+def plain(call):
+    """A public call, with the argument of its trait as the translator names it."""
+    return re.sub(r"<(?:&|'\w+ )*(\w+).*", r"_\1", call)
+
+
+def bodies(crate):
+    """Each call of a type, of a trait for a type, or of none, and the function that it is."""
+    found = {f"{it}: PartialEq": f"rs_{it}_eqb" for it, traits in crate.derived.items() if "PartialEq" in traits}
+    for (owner, _), f in crate.functions.items():
+        name = f"::{f.name.removeprefix(f'{f.trait}_')}" * (f.trait in crate.traits)
+        found[f"{owner}: {f.trait}{name}" if f.trait else "::".join(filter(None, (owner, f.name)))] = f.title
+    return found
+
+
+def listed():
+    """The rows of calls.txt: each public call, its body, and its theorem."""
+    return [it.split("\t") for it in HERE.joinpath("calls.txt").read_text(encoding="utf-8").splitlines()[1:]]
+
+
+def check_calls(root):
+    """That the listed calls have their bodies, and no other trait has a call of their types, or is the crate's: by its
+    name alone a theorem's function could be a type's own one, and the call that of a trait."""
+    known = {plain(call): body for call, body, _ in listed()}
+    owners = {it.partition(":")[0] for it in known}
+    for features, _ in CONFIGURATIONS.values():
+        found = bodies(read(root, features))
+        for it in sorted({*found, *(known if features else ())}):
+            is_public = it in known or ": " in it and (it.partition(":")[0] in owners or "::" in it)
+            if is_public and known.get(it, "")[:4] != "mir_" and found.get(it, "-") != known.get(it):
+                raise Untranslated(f"the call {it} isn't that of calls.txt")
 
 
 def write(root, folder, part="rust"):

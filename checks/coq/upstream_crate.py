@@ -48,7 +48,7 @@ def write(_root, folder, crate, is_compared=False):
         mir_of = "".join(it.read_text(encoding="utf-8") for it in Path(out).rglob("target_lexicon-*.mir"))
         with forms():
             found = upstream_mir.Crate(plain(mir_of), hir, folder.joinpath("Specs.v").read_text(encoding="utf-8"))
-    unwritten = all_of(found)
+    unwritten = all_of(found, ())
     for why in dict.fromkeys(unwritten.values()):
         print(f"theorem: not written: {why}: in {', '.join(it for it in unwritten if unwritten[it] == why)}")
     written = sum(it is not None and not title.endswith("_pure") for title, it, _ in found.out)
