@@ -8,6 +8,8 @@ use std::time::{Duration, Instant};
 pub struct Progress {
     pub targets: usize,
     pub refused: usize,
+    /// How many of these are lines of several words.
+    pub phrases: usize,
     /// How many files are no text.
     pub binary: usize,
     is_shown: bool,
@@ -19,6 +21,7 @@ impl Progress {
         Progress {
             targets: 0,
             refused: 0,
+            phrases: 0,
             binary: 0,
             is_shown: false,
             next: takes_escapes().then(|| Instant::now() + Duration::from_secs(2)),

@@ -122,6 +122,7 @@ impl<'a> Run<'a> {
 
     fn refuse(&mut self, target: Target<'_>, refusal: &Refusal<'_>) -> Result<(), Fault> {
         self.progress.refused += 1;
+        self.progress.phrases += usize::from(target.text.trim().contains(' '));
         if self.outputs.has_objects() && self.call.has_refused_objects() {
             let help = self.helper.help(target, refusal);
             let mut members = target.members();
@@ -149,14 +150,18 @@ impl<'a> Run<'a> {
         let is_refused = self.progress.refused > 0;
         self.call.end(&mut self.outputs, !is_refused && self.unread == 0 && !self.is_quiet)?;
         let has_text = arguments.get_many::<OsString>("target").unwrap_or_default().any(|it| it != "-");
-        self.note(if has_text { "no targets found; `-f FILE` takes each line as one" } else { "no targets read" })?;
+        let Progress { targets, phrases, .. } = self.progress;
+        let none = if has_text { "no targets found; `-f FILE` takes each line as one" } else { "no targets read" };
+        let lines = "`-f` takes each line as a target; without it those in a text are found";
+        let is_text = arguments.contains_id("file") && 2 * phrases > targets;
+        self.note(if targets == 0 { Some(none) } else { is_text.then_some(lines) })?;
         self.summarize(false)?;
         Ok(self.unread.max(i32::from(is_refused)))
     }
 
-    /// Says whether there were no targets, what wasn't understood or read, and whether each answer is the same without
-    /// the C library that is said.
-    fn note(&mut self, none: &str) -> Result<(), Fault> {
+    /// Says what is said of the input, what wasn't understood or read, and whether each answer is the same without the C
+    /// library that is said.
+    fn note(&mut self, of_input: Option<&str>) -> Result<(), Fault> {
         let has_answer = self.progress.targets > self.progress.refused;
         let libc = self.reader.needless_libc().filter(|_| has_answer);
         let libc = libc.map(|it| format!("`--libc {it}` isn't needed: without it the answers are the same"));
@@ -170,8 +175,8 @@ impl<'a> Run<'a> {
             };
             format!("{unclear} {words} {are} understood: --strict shows each")
         });
-        let none = (self.progress.targets == 0 && binary == 0).then(|| none.to_string());
-        for note in none.into_iter().chain(words).chain(files).chain(libc).filter(|_| !self.is_quiet) {
+        let of_input = of_input.filter(|_| binary == 0 && self.unread == 0).map(str::to_string);
+        for note in of_input.into_iter().chain(words).chain(files).chain(libc).filter(|_| !self.is_quiet) {
             self.outputs.refuse(|page, _| show!(page, "note: ", note, "\n"))?;
         }
         self.outputs.flush()

@@ -136,6 +136,9 @@ An argument that is the path of a file is a text, in which targets are found. A 
   [{"target":"wasm32-wasip1","file":"rust-toolchain.toml","line":3,"cano
   {"target":"wasm32-wasip1","file":"rust-toolchain.toml","line":3,"canon
   wasm32-wasip1
+  $ target-lexicon check -f rust-toolchain.toml | grep -v '^!  ' | tail -n 2
+  ! note: `-f` takes each line as a target; without it those in a text are found
+  ! 3 of 3 targets refused
   $ target-lexicon check --from rust rust-toolchain.toml | head -n 1
   ! rust-toolchain.toml:3:30: error: unknown name of rust `x86_64-linux-gnuu`
   $ target-lexicon check nowhere.yml | tail -n 1
@@ -167,7 +170,8 @@ An argument that is the path of a file is a text, in which targets are found. A 
   ! -:1:18: error: unrecognized environment `gnuu`
   ! note: 1 binary file not read
   ! 2 of 2 targets refused
-  $ target-lexicon check --paths nowhere utf16 2>&1 | cat; target-lexicon check --paths > /dev/null
+  $ target-lexicon check --paths nowhere | cat; target-lexicon check --paths nowhere utf16 | cat; target-lexicon check --paths > /dev/null
+  ! target-lexicon: nowhere: No such file or directory (os error 2)
   ! target-lexicon: nowhere: No such file or directory (os error 2)
   ! note: 1 binary file not read
   [2]
