@@ -29,9 +29,7 @@ TABLES = ("names.json", "names.csv", "names.schema.json", "targets.csv")
 SOURCES = ("Cargo.toml", "Cargo.lock", *(f"packages/names/{name}" for name in ("Cargo.toml", "src", *TABLES)),
            *(f"packages/{package}/{name}" for package in ("c", "rust") for name in ("Cargo.toml", "build.rs", "src")))
 LISTS = ("packages/c/include", *(f"tools/names/{name}" for name in ("names.tsv", "answers.tsv", "names_table.py")),
-         "checks/upstream/known_triples.txt",
-         "checks/target_lines.py",
-         "checks/gate/failing_allocator.c")
+         "checks/upstream/known_triples.txt", "checks/target_lines.py", "checks/gate/failing_allocator.c")
 
 
 class CustomBuildHook(BuildHookInterface):
@@ -73,8 +71,7 @@ class CustomBuildHook(BuildHookInterface):
         self.folder = tempfile.TemporaryDirectory()  # which stays until the wheel is written
         work = self.folder.name
         words = [os.environ.get("CARGO", "cargo"), "build", "--quiet", "--release", "--locked", "--offline",
-                 "--target-dir", work, "--manifest-path",
-                 os.path.join(self.top, "packages", "c", "Cargo.toml")]
+                 "--target-dir", work, "--manifest-path", os.path.join(self.top, "packages", "c", "Cargo.toml")]
         try:
             # Above the folder that pip builds in, others may have put settings of cargo.
             status = subprocess.run(words, check=False, cwd=os.path.abspath(os.sep)).returncode

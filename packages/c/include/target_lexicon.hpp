@@ -16,6 +16,9 @@
 // SPDX-License-Identifier: Apache-2.0 WITH LLVM-exception
 #ifndef TARGET_LEXICON_VERIFIED_HPP
 #define TARGET_LEXICON_VERIFIED_HPP
+#ifndef __cpp_if_constexpr
+#error "target_lexicon.hpp needs C++17: add -std=c++17"
+#endif
 
 #include <algorithm>
 #include <cstddef>
@@ -86,8 +89,7 @@ template <class Value, class = decltype(detail::FieldOf<Value>::field)> constexp
 template <class Value> std::optional<Value> value_of(std::string_view text) {
   std::uint32_t number = 0;
   constexpr auto field = static_cast<std::uint32_t>(detail::FieldOf<Value>::field);
-  if (lexicon_number(field, text.data(), text.size(), &number) != LEXICON_OK)
-    return std::nullopt;
+  if (lexicon_number(field, text.data(), text.size(), &number) != LEXICON_OK) return std::nullopt;
   return static_cast<Value>(number);
 }
 
@@ -148,8 +150,7 @@ struct Version {
 // The struct of target_lexicon.h, as long as this version has it: a type of its own in each version.
 struct Facts : lexicon_triple_facts {};
 
-// Part of a string as it was given, perhaps with what a terminal obeys: no stream takes it. ParseError::text is
-// escaped.
+// Part of a string as given, perhaps with what a terminal obeys: no stream takes it. ParseError::text is escaped.
 struct Raw {
   std::string raw;
 
@@ -177,8 +178,7 @@ struct ParseError {
   friend std::ostream& operator<<(std::ostream& out, const ParseError& it) { return out << it.text; }
 };
 
-// A part of a string that `Triple::read` reads as other names. A version that is dropped is one: freebsd13.2 is
-// freebsd.
+// A part of a string that `Triple::read` reads as other names, as freebsd for freebsd13.2, whose version is dropped.
 struct Change {
   std::size_t start = 0, end = 0;  // the part, in bytes
   Raw part;
@@ -295,12 +295,12 @@ class Triple {
     return named(lexicon_write_versioned, dialect, reason, &versions);
   }
 
-  // The triple with the usual environment of a C library, if it is of Linux and states none; else this one.
+  // The triple with the usual environment of a C library of its system, if it states none; else this one.
   Triple completed(ChosenLibc libc) const {
     return variant(lexicon_complete, static_cast<std::uint32_t>(libc)).value_or(*this);
   }
 
-  // The name in the dialect `to` of what a name of the dialect `from` means, with a C library of Linux if one is said.
+  // The name in the dialect `to` of what a name of the dialect `from` means, with a C library if one is said.
   // Without `from`, the string is spelled like a triple. If there is none, `error` says why.
   static std::optional<std::string> translate(std::string_view name, std::optional<Dialect> from, Dialect to,
                                               std::optional<ChosenLibc> libc = std::nullopt,

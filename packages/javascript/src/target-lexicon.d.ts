@@ -169,7 +169,7 @@ export class Triple {
   /** The names in all dialects, with null for those that have none. */
   names(): Record<(typeof DIALECTS)[number], string | null>;
   /**
-   * The triple with the usual environment of a C library, if it is of Linux and states none; any other one as it is.
+   * The triple with the usual environment of a C library of its system, if it states none; any other one as it is.
    */
   complete(libc: ChosenLibc): Triple;
   /** The canonical form: two canonical triples with the same printed string are equal, so the string is a key. */

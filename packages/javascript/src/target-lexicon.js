@@ -261,7 +261,7 @@ function dialectOf(value, argument = "dialect") {
   return index + 1;
 }
 
-/** The number of a C library of Linux in target_lexicon.h. */
+/** The number of a C library in target_lexicon.h. */
 function libcOf(value) {
   const name = stringOf(value, "libc"), number = CHOSEN_LIBCS.indexOf(name);
   const hint = () => (name === "gnu" ? "; did you mean glibc or mingw?" : meant(name, CHOSEN_LIBCS.slice(1)));
@@ -621,14 +621,12 @@ export function check(text) {
   });
 }
 
-/**
- * The question whether another name of a field was meant. A suggestion for a system may have a version, which is no
- * part of its name.
- */
+/** The question whether another name of a field was meant, without a version or a name of a later field. */
 function nearest(it, field, name) {
   const given = it.text(name), suggestion = it.written("suggestion", given[1], ...given,
     it.error(field + 1, 0, given[1]));
-  return suggestion === null ? "" : `; did you mean ${it.names[field][numberOf(FIELDS[field], suggestion)]}?`;
+  const meant = it.names[field][numberOf(FIELDS[field], (suggestion ?? name).split("-")[0])];
+  return meant === undefined ? "" : `; did you mean ${meant}?`;
 }
 
 /** The value of a field that a part of a refused string gives, or null without a part. */

@@ -1,7 +1,7 @@
 //! What a name means to every tool that has it.
 use crate::reading::is_of_machine;
 use crate::table::OF_CONFIG_SUB;
-use crate::{level_spelled, read, Dialect, Evidence, NameError, Said, Sense};
+use crate::{level_spelled, read, vendor_suggestion, Dialect, Evidence, NameError, Said, Sense};
 use target_lexicon::{KnownVendor, OperatingSystem, TripleRef, VendorRef};
 
 /// Whose name it is: that of a dialect, or of nobody but who spells triples. `Display` says it in a word.
@@ -130,9 +130,9 @@ fn may_be_of_msys2(text: &str) -> bool {
     }
 }
 
-/// By whom a string is read that is no triple, or one with a custom vendor: by [`read`], if it gives a known vendor and
-/// a system; else, if it is no triple, by each dialect that means one triple by it, except GNU's, whose names are
-/// spelled like triples. If nobody reads it, the first that has it as a name says why no triple means the same.
+/// By whom a string is read that is no triple, or one with a custom vendor: by [`read`], if it gives a system and a known
+/// vendor, or if it is no triple, one near no name; else, if it is no triple, by each dialect that means one triple by it,
+/// except GNU's, whose names are spelled like triples. If nobody reads it, the first that has it says why no triple does.
 ///
 /// ```
 /// use target_names::{readers, Dialect, NameOf};
@@ -140,12 +140,14 @@ fn may_be_of_msys2(text: &str) -> bool {
 /// let found = |text| readers(text).map(|it| it.of).collect::<Vec<_>>();
 /// assert_eq!(found("linux/amd64"), [Dialect::Go, Dialect::Oci].map(NameOf::Dialect));
 /// assert_eq!(found("aarch64--netbsd"), [NameOf::Spelling]);
+/// assert_eq!([found("amd64-portbld-freebsd13.2").len(), found("amd64-unkown-freebsd13.2").len()], [1, 0]);
 /// assert_eq!(found("x86_64-unknown-none"), []);
 /// assert!(readers("plan9/amd64").all(|it| it.sense == Err("Plan 9 is no known name")));
 /// ```
 pub fn readers(text: &str) -> impl Iterator<Item = Meaning<'_>> + Clone {
     let own = TripleRef::from_str(text).ok();
-    let is_target = |it: &TripleRef<'_>| !it.vendor.is_custom() && it.operating_system != OperatingSystem::Unknown;
+    let may_have = |it: &TripleRef<'_>| !it.vendor.is_custom() || own.is_none() && vendor_suggestion(*it).is_none();
+    let is_target = |it: &TripleRef<'_>| it.operating_system != OperatingSystem::Unknown && may_have(it);
     let spelled = read(text).ok().filter(|it| is_target(it) && own.map_or(true, |own| own.vendor.is_custom()));
     let is_name = own.is_none() && spelled.is_none();
     let named = Dialect::ALL.iter().filter(move |it| is_name && **it != Dialect::Gnu);

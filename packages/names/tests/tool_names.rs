@@ -85,7 +85,7 @@ pc=w64";
 
 const ENVIRONMENTS: &str = "\
 android=android21
-musl=musl msul
+musl=mulsl msul
 elf=efl
 gnu=gnuu gnus
 gnueabihf=gnueabihf2.31
@@ -113,7 +113,7 @@ fn names_are_suggested() {
             assert_eq!(suggestion(field, text), None);
         }
         for name in known_names(field) {
-            assert_eq!(suggestion(field, name).unwrap(), *name);
+            assert_eq!(suggestion(field, name), None);
         }
     }
 }

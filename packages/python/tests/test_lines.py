@@ -89,6 +89,10 @@ class Columns(unittest.TestCase):
             # A missing cell is as a target that is refused, so that each row has its answer.
             missing = [None, float("nan"), type("NAType", (), {})()]
             self.assertEqual((call([*missing, "arm64"]), call([])), (call(["", "", "", "arm64"]), []))
+        triples = [*map(Triple, ("arm64-linux", "x86_64-acme-linux", "armv6k-nintendo-horizon-gnu"))]
+        self.assertEqual(target_lexicon.settle_all([*triples, None] * 2), [*(it.canonical for it in triples), None] * 2)
+        found = [it._asdict() for it in target_lexicon.facts_all(["avr", *triples], "coerce")[1:]]
+        self.assertEqual(found, [it.to_dict() for it in triples])
 
     def test_wrong_types(self):
         for call in self.CALLS:
@@ -104,7 +108,7 @@ class Columns(unittest.TestCase):
                 self.assertRaisesRegex(ValueError, f"^errors must be 'raise' or 'coerce', not {wrong!r}$", call,
                                        ["avr"], wrong)
             for errors in "raise", "coerce":
-                for wrong in "x86_64-linux", {"avr": 1}, memoryview(b"avr!").cast("B", (2, 2)):  # of two dimensions
+                for wrong in "avr", b"avr", {"avr": 1}, memoryview(b"avr!").cast("B", (2, 2)):  # of two dimensions
                     self.assertRaisesRegex(TypeError, "such as one column, not a", call, wrong, errors)
 
     def test_long_columns(self):

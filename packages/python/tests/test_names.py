@@ -157,7 +157,7 @@ class Names(unittest.TestCase):
                           for it in ("linux/amd64", "darwin/arm64", "freebsd/amd64", "windows/amd64")],
                          ["manylinux_2_17_x86_64", "macosx_11_0_arm64", "freebsd_14_1_RELEASE_amd64", "win_amd64"])
         freebsd = Triple("x86_64-unknown-freebsd")
-        self.assertEqual((freebsd.name_in("python", glibc=(2, 17)), freebsd.name_in("python", freebsd=(14, 1))),
+        self.assertEqual((freebsd.name_in("python", glibc=(2, 17)), freebsd.name_in("python", freebsd=(14, 1), ios=None)),
                          (None, "freebsd_14_1_RELEASE_amd64"))
         self.assertRaisesRegex(TypeError, "there are no versions of 'gnu'", freebsd.name_in, "python", gnu=(2, 17))
         self.assertRaisesRegex(ValueError, "one or two numbers", freebsd.name_in, "python", glibc=(2, 17, 1))

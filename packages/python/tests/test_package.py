@@ -208,6 +208,7 @@ class FindsTheLibrary(Folder):
             return ran.stdout or ran.stderr.splitlines()[-1]
         needs = rf"^ImportError: .* needs the .* libtarget_lexicon {re.escape(CALLS)}: .*TARGET_LEXICON_LIBRARY"
         self.assertRegex(prints(), needs)
+        self.assertIn("can't be within a zip ", run(sys.executable, "-c", PRINTS, PYTHONPATH=built(".whl")).stderr)
         for tool in "gcc", "cc", "ld", "ldconfig", "objdump":
             write_tool(os.path.join(self.folder, tool), f"echo {tool} >> {self.folder}/ran")
         self.assertRegex(prints(PATH=self.folder), needs)
@@ -337,8 +338,7 @@ class OtherTools(Folder):
         """PyPy moves the objects that aren't of ctypes, so a pointer into one of them would be seen."""
         given = {name: value for name, value in os.environ.items() if name.startswith("LEXICON_TEST_")}
         ran = run("pypy3", "-m", "unittest", "test_triples.Values", "test_values", "test_names.Names",
-                  "test_lines.Threads",
-                  PYTHONPATH=f"{PACKAGES}:{HERE}", **given)
+                  "test_lines.Threads", PYTHONPATH=f"{PACKAGES}:{HERE}", **given)
         self.assertRegex(ran.stderr, r"Ran [23]\d tests in (?s:.*)\nOK")
 
     @unittest.skipUnless(shutil.which("mypy"), "no mypy")

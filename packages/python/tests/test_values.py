@@ -75,6 +75,7 @@ class Values(unittest.TestCase):
         self.assertRaisesRegex(ValueError, r"pc is a known vendor: Vendor\.PC", CustomVendor, "pc")
         for text in "", "PC", "linux", "x86_64", "a-b", "\u0430cme", "a\0":
             self.assertRaises(ParseError, CustomVendor, text)
+        self.assertRaisesRegex(ParseError, r"^Unrecognized vendor: linux\n  linux\n  \^{5}$", CustomVendor, "linux")
         for value in None, b"acme", 3:
             self.assertRaises(TypeError, CustomVendor, value)
 

@@ -7,7 +7,7 @@ from collections.abc import Mapping
 from ctypes import byref, c_size_t, c_void_p
 from itertools import islice
 from operator import getitem, itemgetter
-from typing import Any, Callable, Dict, Iterable, List, Literal, Optional, Sequence, Tuple, TypeVar
+from typing import Any, Callable, Dict, Iterable, List, Literal, Optional, Sequence, Tuple, TypeVar, Union
 
 from . import _library, _names
 from ._facts import FACTS, Facts
@@ -31,20 +31,20 @@ _in_order = itemgetter(*map(_names.FACT_NAMES.index, FACTS))
 _value_of: Callable[[Sequence[Any], int], Any] = getitem
 
 
-def settle_all(targets: Iterable[Optional[str]], errors: Errors = "raise") -> List[Optional[str]]:
+def settle_all(targets: Iterable[Union[str, Triple, None]], errors: Errors = "raise") -> List[Optional[str]]:
     """The canonical string of each target, or None for one that is refused. Much faster than a loop over `Triple`.
 
     >>> settle_all(["arm64-linux-gnu", "aarch64-unknown-linux-gnu", "x86_64-pc-linx"])
     ['aarch64-unknown-linux-gnu', 'aarch64-unknown-linux-gnu', None]
 
     A missing cell of a column, which is None, NaN or `pandas.NA`, is as a target that is refused. Anything else but a
-    `str` raises a TypeError that has it and its index; with `errors="coerce"`, as in pandas, it is as a missing cell. A
-    single `str`, a mapping or a table, such as a DataFrame, is a TypeError.
+    `str` or a triple raises a TypeError that has it and its index; with `errors="coerce"`, as in pandas, it is as a
+    missing cell. A single `str`, a mapping or a table, such as a DataFrame, is a TypeError.
     """
-    return _each(targets, errors, _canonical_texts)
+    return _each(targets, errors, _canonical_texts, lambda triple: triple.canonical)
 
 
-def facts_all(targets: Iterable[Optional[str]], errors: Errors = "raise") -> List[Facts]:
+def facts_all(targets: Iterable[Union[str, Triple, None]], errors: Errors = "raise") -> List[Facts]:
     """All answers about each target. Of one that is refused every answer is None.
 
     >>> [it.pointer_width for it in facts_all(["arm64-linux-gnu", "avr", "x86_64-pc-linx"])]
@@ -52,35 +52,38 @@ def facts_all(targets: Iterable[Optional[str]], errors: Errors = "raise") -> Lis
 
     Missing cells and wrong types are as in `settle_all`.
     """
-    return _each(targets, errors, _facts_of_texts)
+    return _each(targets, errors, _facts_of_texts, facts_of)
 
 
-def _each(targets: Iterable[Any], errors: Errors, answers_of: Callable[[Sequence[str]], List[Answer]]) -> List[Answer]:
-    """The answer for each target, by a function that answers for many. It isn't asked again for what is remembered."""
-    if isinstance(targets, (str, Mapping)) or getattr(targets, "ndim", 1) != 1:
+def _each(targets: Iterable[Any], errors: Errors, answers_of: Callable[[Sequence[str]], List[Answer]],
+          answer_of: Callable[[Triple], Answer]) -> List[Answer]:
+    """The answer for each target, by a function that answers for many strings, or by one that answers for a triple.
+    Neither is asked again for what is remembered."""
+    if isinstance(targets, (str, bytes, Mapping)) or getattr(targets, "ndim", 1) != 1:
         raise TypeError(f"the targets must be an iterable of str, such as one column, not a {type(targets).__name__}")
     if errors not in ("raise", "coerce"):
         raise ValueError(f"errors must be 'raise' or 'coerce', not {errors!r}")
     answers: List[Answer] = []
-    remembered: Dict[str, Answer] = {}
+    remembered: Dict[Union[str, Triple], Answer] = {}
     rest = iter(targets)
     while some := list(islice(rest, _AT_ONCE)):
-        if not {str}.issuperset(map(type, some)):
-            some = [_plain(it, index, errors) for index, it in enumerate(some, len(answers))]
         if len(remembered) > _REMEMBERED:
             remembered.clear()
+        if not {str}.issuperset(map(type, some)):
+            some = [_plain(it, index, errors) for index, it in enumerate(some, len(answers))]
+            remembered.update((it, answer_of(it)) for it in {*some}.difference(remembered) if isinstance(it, Triple))
         new = tuple(set(some).difference(remembered))
         remembered.update(zip(new, answers_of(new)))
         answers += map(remembered.__getitem__, some)
     return answers
 
 
-def _plain(target: Any, index: int, errors: Errors) -> str:
-    """The target as a `str`, so that no subclass says how it is compared, hashed or searched. A missing cell is the
-    empty string, which is refused. Anything else is a TypeError, or the same.
+def _plain(target: Any, index: int, errors: Errors) -> Union[str, Triple]:
+    """A triple, or the target as a `str`, so that no subclass says how it is compared, hashed or searched. A missing
+    cell is the empty string, which is refused. Anything else is a TypeError, or the same.
     """
-    if isinstance(target, str):
-        return str.__str__(target)
+    if isinstance(target, (str, Triple)):
+        return target if isinstance(target, Triple) else str.__str__(target)
     if errors == "coerce" or target is None or isinstance(target, float) and target != target or type(
         target).__name__ == "NAType":
         return ""

@@ -18,7 +18,7 @@ def dialect_number(dialect: Union[Dialect, DialectName]) -> int:
 
 
 def libc_number(libc: Union[ChosenLibc, ChosenLibcName]) -> int:
-    """The number in the library for C of a C library of Linux, given as a member or by its name."""
+    """The number in the library for C of a C library, given as a member or by its name."""
     return _number(libc, ChosenLibc, "C library")
 
 

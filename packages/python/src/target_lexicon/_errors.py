@@ -75,10 +75,12 @@ class ParseError(ValueError):
     def suggestion(self) -> Optional[str]:
         """The name that may have been meant by the part, or None if there is none."""
         if self._number:
-            return _library.name_suggestion(self._number, self.text.encode())
+            utf8 = self.text.encode()
+            return _library.name_suggestion(self._number, utf8, len(utf8))
         before, part, after = (it.encode(errors="replace")
                                for it in (self.text[:self.start], self.part, self.text[self.end:]))
-        return _library.suggestion(self._status, before + part + after, len(before), len(before + part))
+        utf8, error = before + part + after, _library.ErrorStruct(self._status, len(before), len(before + part))
+        return _library.suggestion(utf8, len(utf8), error)
 
     @property
     def _status(self) -> int:
@@ -111,13 +113,15 @@ class ParseError(ValueError):
 
     def _note(self) -> Optional[str]:
         """What the library knows of the string; or else that other tools have it as a name, and by which calls it is
-        read, or why no triple means it. None if nobody has it."""
+        read, or why no triple means it. None if nobody has it, or if it should only be a value of a later field."""
+        if self.start == 0 and self.field in FIELDS[1:]:
+            return None
         utf8 = self.text.encode(errors="replace")
         note = _library.note(self._number, utf8, len(utf8))
         if note or self.dialect is not None:
             return note
         dialects, calls = (None, *Dialect), []
-        for it in _library.readers(ctypes.create_string_buffer(utf8, len(utf8))):
+        for it in _library.meanings(ctypes.create_string_buffer(utf8, len(utf8)), _library.readers):
             dialect = dialects[it.dialect]
             if it.status != _names.OK:
                 return f"it is a name of {dialect} without a triple: {it.note}"

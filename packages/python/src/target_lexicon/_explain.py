@@ -7,7 +7,7 @@ from . import _library, _names
 from ._errors import encoded, range_in, refusal
 from ._named import NamedValue
 from ._names import FIELDS
-from ._triple import Triple, _triple_of, _version_text
+from ._triple import Triple, _triple_of
 
 
 class Origin(NamedValue):
@@ -77,7 +77,7 @@ class Explanation(NamedTuple):
         return f"`{self.vendor.value}` is a custom vendor{hint}"
 
     def __str__(self) -> str:
-        version = _version_text(self.triple.version)
+        version = ".".join(map(str, self.triple.version or ()))
         values = {name: f"{source.value} {version}" if version and name == "operating_system" else source.value
                   for name, source in self.sources}
         width = max(len(value) for value in values.values() if len(value) <= 40)

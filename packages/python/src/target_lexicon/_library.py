@@ -165,8 +165,8 @@ def _load() -> Tuple[str, ctypes.CDLL]:
             failures.append(str(error))
     raise ImportError(
         f"target_lexicon needs the shared library libtarget_lexicon {_CALLS_VERSION}: in the package as "
-        f"{_PACKAGE_FILE}, as the file that the variable TARGET_LEXICON_LIBRARY names, or where the loader finds "
-        f"{_NAME} ({'; '.join(failures)})")
+        f"{_PACKAGE_FILE}, which can't be within a zip archive, as the file that the variable TARGET_LEXICON_LIBRARY "
+        f"names, or where the loader finds {_NAME} ({'; '.join(failures)})")
 
 
 #: The file or the name by which the library was loaded, and the library.
@@ -229,8 +229,7 @@ _host: Callable[[], bytes] = _declare("lexicon_host", result=c_char_p)
 parse = _declare("lexicon_parse", c_char_p, c_size_t, _TRIPLE, _ERROR)
 explain = _declare("lexicon_explain", c_char_p, c_size_t, _TRIPLE, POINTER(SourcesStruct), _ERROR)
 settle = _declare("lexicon_settle", _TRIPLE)
-settle_lines = _declare("lexicon_settle_lines", c_char_p, c_size_t, c_void_p, c_size_t, _SIZE,
-                        library=_RELEASING)
+settle_lines = _declare("lexicon_settle_lines", c_char_p, c_size_t, c_void_p, c_size_t, _SIZE, library=_RELEASING)
 comes_back: Callable[[TripleStruct], bool] = _declare("lexicon_comes_back", _TRIPLE, result=c_bool)
 equal = _declare("lexicon_equal", _TRIPLE, _TRIPLE, result=c_bool)
 same_target: Callable[[TripleStruct, TripleStruct], bool] = _declare("lexicon_same_target", _TRIPLE, _TRIPLE,
@@ -247,17 +246,19 @@ complete = _declare("lexicon_complete", _TRIPLE, c_uint32)
 _translate = _declare("lexicon_translate", c_uint32, c_char_p, c_size_t, c_uint32, POINTER(VersionsStruct), c_uint32,
                       c_void_p, c_size_t, _SIZE, _ERROR)
 _change = _writing("lexicon_changes", c_char_p, c_size_t, c_size_t, POINTER(PartStruct))
-_meanings, _readers = (_declare(f"lexicon_{name}", c_char_p, c_size_t, POINTER(MeaningStruct), c_size_t, _SIZE)
-                       for name in ("meanings", "readers"))
+_meanings, readers = (_declare(f"lexicon_{name}", c_char_p, c_size_t, POINTER(MeaningStruct), c_size_t, _SIZE)
+                      for name in ("meanings", "readers"))
 _targets, _check = (_declare(f"lexicon_{name}", c_char_p, c_size_t, POINTER(struct), c_size_t, _SIZE,
                              library=_RELEASING)
                     for name, struct in (("targets", PartStruct), ("check", FindingStruct)))
 _number = _declare("lexicon_number", c_uint32, c_char_p, c_size_t, POINTER(c_uint32))
 _error_text = _writing("lexicon_error_text", c_char_p, c_size_t, _ERROR)
-_suggestion = _writing("lexicon_suggestion", c_char_p, c_size_t, _ERROR)
+suggestion: Callable[[bytes, int, ErrorStruct], Optional[str]] = _writing("lexicon_suggestion", c_char_p, c_size_t,
+                                                                          _ERROR)
 vendor_suggestion: Callable[[TripleStruct], Optional[str]] = _writing("lexicon_vendor_suggestion", _TRIPLE)
-_name_suggestion = _writing("lexicon_name_suggestion", c_uint32, c_char_p, c_size_t)
-note: Callable[[int, bytes, int], Optional[str]] = _writing("lexicon_note", c_uint32, c_char_p, c_size_t)
+_OfName = Callable[[int, bytes, int], Optional[str]]
+name_suggestion: _OfName = _writing("lexicon_name_suggestion", c_uint32, c_char_p, c_size_t)
+note: _OfName = _writing("lexicon_note", c_uint32, c_char_p, c_size_t)
 # The name of the value of a field with this number, or None if there is none.
 name: Callable[[int, int], Optional[bytes]] = _declare("lexicon_name", c_uint32, c_uint32, result=c_char_p)
 
@@ -299,18 +300,6 @@ def error_line(status: int, part: str) -> str:
     return f"{_error_text(None, 0, ErrorStruct(status)).partition(chr(10))[0]}{part}"
 
 
-def suggestion(status: int, text: bytes, start: int, end: int) -> Optional[str]:
-    """What may have been meant by the part of a text that is refused with this status."""
-    found: Optional[str] = _suggestion(text, len(text), ErrorStruct(status, start, end))
-    return found
-
-
-def name_suggestion(dialect: int, text: bytes) -> Optional[str]:
-    """The nearest of the names that a dialect reads, if it doesn't know this one; else None."""
-    found: Optional[str] = _name_suggestion(dialect, text, len(text))
-    return found
-
-
 def reason(dialect: int, text: bytes) -> Optional[str]:
     """Why a name of a dialect has no triple, or None if it has one, or if it is no name."""
     error = ErrorStruct()
@@ -340,15 +329,11 @@ def translate(text: bytes, from_dialect: int, libc: int, versions: Optional[Vers
 
 
 def meanings(text: ctypes.Array[c_char], call: Callable[..., int] = _meanings) -> Sequence[MeaningStruct]:
-    """What a text means to each that has it as a name. The triples are within the text."""
+    """What a text means to each that has it as a name, or to the `readers` of what is no triple. The triples are within
+    the text."""
     found, count = (MeaningStruct * MAX_MEANINGS)(), c_size_t()
     check(call(text, len(text), found, MAX_MEANINGS, count))
     return found[:count.value]
-
-
-def readers(text: ctypes.Array[c_char]) -> Sequence[MeaningStruct]:
-    """Those by whom a text is read that is no triple."""
-    return meanings(text, _readers)
 
 
 def changes(text: bytes) -> Iterator[Tuple[int, int, str]]:

@@ -49,7 +49,7 @@ class TranslationError(ParseError):
 
 def translate(
     name: str, source: Union[Dialect, DialectName, None], target: Union[Dialect, DialectName],
-    libc: Union[ChosenLibc, ChosenLibcName, None] = None, **versions: Sequence[int],
+    libc: Union[ChosenLibc, ChosenLibcName, None] = None, **versions: Optional[Sequence[int]],
 ) -> str:
     """The name in the dialect `target` of what a name of the dialect `source` means.
 

@@ -13,7 +13,7 @@ from . import _library, _names
 from ._dialects import NO_DIALECT, dialect_number, libc_number
 from ._errors import ParseError, encoded, refusal
 from ._facts import Facts, FactsOfTriple
-from ._fields import CustomVendor
+from ._fields import CustomVendor, FieldValue
 from ._named import Immutable, NamedValue, shown
 from ._names import FIELDS, ChosenLibc, ChosenLibcName, Dialect, DialectName
 from ._values import Architecture, BinaryFormat, Environment, OperatingSystem, Vendor
@@ -180,6 +180,8 @@ class Triple(FactsOfTriple, Immutable):
         answers of `to_dict` follow from the fields, and aren't looked at. Any other key raises a ValueError, as a name
         does that the field doesn't have.
         """
+        if not isinstance(values, Mapping):
+            raise TypeError(f"the fields must be a mapping, not {type(values).__name__}")
         unknown = [it for it in values if it not in Facts._fields]
         if unknown:
             raise ValueError(f"a triple has no {', '.join(shown(str(it)) for it in unknown)}")
@@ -290,7 +292,8 @@ class Triple(FactsOfTriple, Immutable):
 
         return facts_of(self)._asdict()
 
-    def name_in(self, dialect: Union[Dialect, DialectName], **versions: Sequence[int]) -> Optional[str]:
+    def name_in(self, dialect: Union[Dialect, DialectName],
+                **versions: Optional[Sequence[int]]) -> Optional[str]:
         """The name that another tool has for the target, or None if it has none. The tool is a `Dialect`, or its name.
 
         >>> triple = Triple("aarch64-unknown-linux-gnu")
@@ -302,14 +305,14 @@ class Triple(FactsOfTriple, Immutable):
 
         The vendor doesn't matter, nor what the dialect doesn't name. A version, of one or two numbers, is that of
         glibc, musl, macos, ios, android (its API level), freebsd, netbsd, openbsd, dragonfly or windows (its build),
-        which names of Python state, and some of Zig, such as `aarch64-macos.11.0`. One of another system or C library
-        than the triple's never applies. That of glibc or of musl, if there isn't one of both, says the C library of a
-        triple of Linux that states none.
+        which names of Python state, and some of Zig, such as `aarch64-macos.11.0`. None is no version, and one of
+        another system or C library than the triple's never applies. That of glibc or of musl, if there isn't one of
+        both, says the C library of a triple of Linux that states none.
         """
         return _library.write(dialect_number(dialect), self._struct, versions_struct(versions))[0]
 
     def reason_without_name(self, dialect: Union[Dialect, DialectName],
-                            **versions: Sequence[int]) -> Optional[str]:
+                            **versions: Optional[Sequence[int]]) -> Optional[str]:
         """Why `name_in` has no name for these arguments, and what would help. None if it has one.
 
         >>> triple = Triple("aarch64-unknown-linux")
@@ -321,8 +324,8 @@ class Triple(FactsOfTriple, Immutable):
         return _library.write(dialect_number(dialect), self._struct, versions_struct(versions))[1]
 
     def complete(self, libc: Union[ChosenLibc, ChosenLibcName]) -> Triple:
-        """The triple with the usual environment of a C library, if it is of Linux and states none; any other one as it
-        is.
+        """The triple with the usual environment of a C library of its system, Linux or Windows, if it states none; any
+        other one as it is.
 
         >>> Triple.read("linux/arm/v7", "oci").complete("glibc")
         Triple('armv7-unknown-linux-gnueabihf')
@@ -489,11 +492,7 @@ def _facts_of(struct: _library.TripleStruct) -> _library.FactsStruct:
     return facts
 
 
-def _version_text(version: Optional[Version]) -> Optional[str]:
-    return None if version is None else ".".join(map(str, version))
-
-
-def _number(value: Any, of: Type[NamedValue], name: str) -> int:
+def _number(value: Any, of: Type[FieldValue], name: str) -> int:
     """The number of a value of this type, or of the one that has this name; anything else is a TypeError."""
     if isinstance(value, of):
         return value.number
@@ -505,20 +504,23 @@ def _number(value: Any, of: Type[NamedValue], name: str) -> int:
         if of is Architecture:
             with suppress(ParseError):
                 return Architecture.parse(value).number  # an alias, such as arm64
-        meant = ParseError(value, name).suggestion
-        raise ValueError(f"no {name} has the name {value!a}{f'; did you mean {meant!r}?' if meant else ''}") from None
+        meant = ""
+        with suppress(ParseError):
+            first = (ParseError(value, name).suggestion or value).partition("-")[0]
+            meant = f"; did you mean {of.parse(first).value!r}?"
+        raise ValueError(f"no {name} has the name {value!a}{meant}") from None
 
 
-def versions_struct(versions: Mapping[str, Sequence[int]]) -> Optional[_library.VersionsStruct]:
+def versions_struct(versions: Mapping[str, Optional[Sequence[int]]]) -> Optional[_library.VersionsStruct]:
     """The versions that names state, each of two numbers, by their C libraries and systems; None if there are none."""
     struct = _library.VersionsStruct()
     for name, version in versions.items():
         if name not in _library.VERSIONS_OF:
             raise TypeError(f"there are no versions of {name!a}: they are of {', '.join(_library.VERSIONS_OF)}")
-        full = _full_version(version)
-        if full is None or full[2]:
+        major, minor, patch = _full_version(version) or (0, 0, 0)
+        if patch:
             raise ValueError(f"a name states one or two numbers of a version, not {version!a}")
-        setattr(struct, name, _library.VersionStruct(*full))
+        setattr(struct, name, _library.VersionStruct(major, minor))
     return struct if versions else None
 
 
@@ -536,5 +538,5 @@ def _full_version(version: Optional[Sequence[int]]) -> Optional[Version]:
         raise ValueError(f"a version has one to three numbers, not {len(numbers)}")
     major, minor, patch = full = numbers + (0,) * (3 - len(numbers))
     if any(not 0 <= number <= largest for number, largest in zip(full, _LARGEST_VERSION)):
-        raise ValueError(f"the numbers of a version are at most {_LARGEST_VERSION}, not {full}")
+        raise ValueError(f"the numbers of a version are from 0 to {_LARGEST_VERSION}, not {numbers}")
     return major, minor, patch
