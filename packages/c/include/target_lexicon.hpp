@@ -1,5 +1,4 @@
-// Target triples for C++17: parsing, printing, queries, and the names of other tools, over target_lexicon.h. Everything
-// is inline.
+// Target triples for C++17, inline: parsing, printing, queries, and the names of other tools, over target_lexicon.h.
 //
 //     lexicon::ParseError error;
 //     if (auto triple = lexicon::Triple::parse("x86_64-unknown-linux-gnu", &error)) {
