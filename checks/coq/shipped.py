@@ -92,7 +92,7 @@ def check_calls(root):
         for it in sorted({*found, *(known if features else ())}):
             is_public = it in known or ": " in it and (it.partition(":")[0] in owners or "::" in it)
             if is_public and known.get(it, "")[:4] != "mir_" and found.get(it, "-") != known.get(it):
-                raise Untranslated(f"the call {it} isn't that of calls.txt")
+                raise Untranslated(f"the call {it} isn't that of calls.txt, which packages/rust/test --write writes")
 
 
 def write(root, folder, part="rust"):
