@@ -666,7 +666,7 @@ pub unsafe extern "C" fn lexicon_note(
         Some(it) => Note::of(text, dialect).filter(|_| it.read_loosely(text) == Err(NameError::Unknown)),
         None => {
             let is_whole = TripleRef::from_str(text).err()?.part.text == text;
-            Note::of(text, None).filter(|it| is_whole || matches!(it, Note::Ascii(_)))
+            Note::of(text, None).filter(|it| is_whole || !matches!(it, Note::Words(it) if it.sense().is_none()))
         }
     };
     unsafe { write_suggestion(dialect_at(dialect).zip(text).and_then(find), out, out_size, length) }

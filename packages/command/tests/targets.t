@@ -34,7 +34,7 @@ A refused target is shown, with its place if it is a line. A byte order mark and
 Dashes and quotes of a word processor have their form in ASCII, and what words say of a name that nobody has is noted:
 
   $ for call in settle what; do target-lexicon $call '“x86_64‑linux–gnu”' | tail -n 1; done | uniq
-  !   note: with the dashes and quotes of ASCII it is `x86_64-linux-gnu`
+  !   note: in ASCII it is `x86_64-linux-gnu`
   $ for it in 'settle linux/amr64' 'check --from rust linux/amr64'; do target-lexicon $it | tail -n 1; done | uniq
   !   note: its words say linux, and no single machine known here
 
@@ -156,7 +156,7 @@ An argument that is the path of a file is a text, in which targets are found. A 
   ! typeset:1:7: error: unrecognized architecture `x86_64\u{2013}linux\u{2011}gnu`
   !   x86_64\u{2013}linux\u{2011}gnu
   !   ^^^^^^^^^^^^^^^^^^^^^^^^^^^^^^
-  !   note: with the dashes and quotes of ASCII it is `x86_64-linux-gnu`
+  !   note: in ASCII it is `x86_64-linux-gnu`
   [1]
   $ printf 'caf\xe9: x86_64-linux-gnuu\n' > bytes; target-lexicon check bytes | head -n 1
   ! bytes:1:20: error: unrecognized environment `gnuu`

@@ -470,7 +470,7 @@ fn is_part(word: &str, name: &str) -> bool {
 #[derive(Clone, Copy, Debug)]
 #[non_exhaustive]
 pub enum Note<'a> {
-    /// This string is a name with the dashes of ASCII, and without the quotes of a word processor.
+    /// This string is a name with the dashes of ASCII, and without the quotes of a word processor and what can't be seen.
     Ascii(&'a str),
     /// What is wrong with it as a name of a dialect.
     Mistake(Mistake<'a>),
@@ -486,8 +486,8 @@ impl<'a> Note<'a> {
     /// use target_names::{Dialect, Note};
     ///
     /// let note = |text, dialect| Note::of(text, dialect).map(|it| it.to_string());
-    /// let ascii = "with the dashes and quotes of ASCII it is `x86_64-linux-gnu`";
-    /// assert_eq!(note("\u{201c}x86_64\u{2011}linux\u{2013}gnu\u{201d}", None).unwrap(), ascii);
+    /// let ascii = "in ASCII it is `x86_64-linux-gnu`";
+    /// assert_eq!(note("\u{201c}x86_64\u{2011}linux\u{2013}gnu\u{200b}\u{201d}", None).unwrap(), ascii);
     /// assert_eq!(note("linux/amr64", None).unwrap(), "its words say linux, and no single machine known here");
     /// assert_eq!(note("linux/arm", Some(Dialect::Debian)).unwrap(), "it is a name of go and oci");
     /// assert_eq!(note("linux/arm", None), None); // `readers` says who reads it
@@ -521,7 +521,7 @@ impl fmt::Display for Note<'_> {
     fn fmt(&self, f: &mut fmt::Formatter<'_>) -> fmt::Result {
         match self {
             Note::Ascii(text) => {
-                f.write_str("with the dashes and quotes of ASCII it is `")?;
+                f.write_str("in ASCII it is `")?;
                 plain(text).try_for_each(|it| f.write_char(it))?;
                 f.write_str("`")
             }
@@ -536,10 +536,13 @@ fn says_digit_last(note: &Note<'_>) -> bool {
     write!(said, "{note}").is_ok() && ends_with_digit(said.as_str().trim_end_matches('`'))
 }
 
-/// A string with the dashes that a word processor made of `-`, and without its quotes and white space around it.
+/// A string with the dashes that a word processor made of `-`, and without its quotes and white space around it, and
+/// what has no width, as pages have it where a long name may be broken.
 fn plain(text: &str) -> impl Iterator<Item = char> + '_ {
-    let is_around = |it: char| ('\u{2018}'..='\u{201f}').contains(&it) || it.is_whitespace();
-    text.trim_matches(is_around).chars().map(move |it| if is_dash(it) { '-' } else { it })
+    let is_unseen = |it: char| matches!(it, '\u{ad}' | '\u{200b}'..='\u{200d}' | '\u{2060}' | '\u{feff}');
+    let is_around = move |it: char| ('\u{2018}'..='\u{201f}').contains(&it) || it.is_whitespace() || is_unseen(it);
+    let inside = text.trim_matches(is_around).chars().filter(move |it| !is_unseen(*it));
+    inside.map(|it| if is_dash(it) { '-' } else { it })
 }
 
 /// Whether a character is a dash that a word processor makes of `-`.

@@ -72,7 +72,7 @@ armv6=armvj6
 thumbv7em=thumbve7m
 s390x=sm390x
 -=arme armebb armv sparcv arm64e arm64ec riscv64im riscv32em thumbv8r armv7hl armv6hl mips32el iso17 arm6j wasm x86 x86_32 mipsel64
--=cleverz. arc arceb crisv32 m88k r600 s390 spir64 spirv64 z8k amr64 powerpcle mipsl mipse";
+-=armeabi cleverz. arc arceb crisv32 m88k r600 s390 spir64 spirv64 z8k amr64 powerpcle mipsl mipse";
 
 const VENDORS: &str = "\
 linux=linxu linux5.10

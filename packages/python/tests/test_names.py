@@ -220,7 +220,7 @@ class Names(unittest.TestCase):
                           ("linux/foo", "linux/foo", None, None, True),
                           ("arm64-apple-darwn22", "darwn22", "darwin22", "operating_system", False),
                           ("x86_64-unknown-linux-gnuu", "gnuu", "gnu", "environment", False),
-                          ("armv7-unknown-linux-gnueabhif", "gnueabhif", None, "environment", False)])
+                          ("armv7-unknown-linux-gnueabhif", "gnueabhif", "gnueabihf", "environment", False)])
         self.assertEqual([text[it.start:it.end] for it in found], [it.part for it in found])
         self.assertEqual(([], 500), (target_lexicon.check("0.5.0\ndist"),
                                      len(target_lexicon.check("target: x86_64-linux-gnuu\n" * 500))))

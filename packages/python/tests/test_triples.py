@@ -195,7 +195,8 @@ class Refusals(Refused):
             "x86_64-": "Unrecognized vendor: \n  x86_64-\n         ^",
             "x86_64-pc-l\u00e9\tx": "Unrecognized operating system: l\\xe9\\tx\n"
                                    "  x86_64-pc-l\\xe9\\tx\n            ^^^^^^^^",
-            "x86_64-linux-elf-gnu": "Unrecognized field: gnu\n  x86_64-linux-elf-gnu\n                   ^^^",
+            "x86_64-linux-elf-gnu": "Unrecognized field: gnu\n  x86_64-linux-elf-gnu\n                   ^^^\n"
+                                    "  note: its words name x86_64-unknown-linux-gnu",
             "arm64-apple-iso17": "Unrecognized operating system: iso17\n"
                                  "  arm64-apple-iso17\n              ^^^^^ did you mean `ios17`?",
             "x86_64-pc-linux-gnuu-elf": "Unrecognized environment: gnuu\n"
@@ -240,7 +241,7 @@ class Refusals(Refused):
         self.assertNotIn("note:", str(self.refusal(Triple, "linux/amd46")))
         for text, dialect, said in (("linux/arm", "debian", "it is a name of go and oci"), ("x\ud800", "go", None),
                                     ("linux/amr64", None, "its words say linux, and no single machine known here"),
-                                    ("avr\u2013none", None, "with the dashes and quotes of ASCII it is `avr-none`")):
+                                    ("avr\u2013none", None, "in ASCII it is `avr-none`")):
             error = str(self.refusal(Triple.read, text, dialect))
             self.assertEqual(error.partition("\n  note: ")[2], said or "")
 
