@@ -337,6 +337,7 @@ def lists(tables):
     only_read = [it for it in dialects if not it.is_written]
     only_written = [it for it in dialects if not it.is_read]
     python_names = ", ".join(f'"{name}": "{it.name}"' for name, it in others)
+    said = [(", ".join(f"`{name}`" for name in [it.name, *it.other_names]), it.about) for it in dialects]
     return {
         "the dialects for C": [
             f"LEXICON_DIALECT_{it.constant} = {number}, /* {it.about.rstrip('.').replace('`', '')} */"
@@ -361,7 +362,7 @@ def lists(tables):
             "const OTHER_NAMES = { " + ", ".join(f'{name}: "{it.name}"' for name, it in others) + " };"],
         "the dialects for the documentation": [
             "", "| Dialect | Its names |", "|---|---|",
-            *(f"| {', '.join(f'`{name}`' for name in [it.name, *it.other_names])} | {it.about} |" for it in dialects)],
+            *(f"| {names} | {about} |" for names, about in said)],
         "the dialects for JavaScript": [
             "/** The tools whose names of targets are known, by their numbers, which begin with 1; and those whose "
             "names are written. */",
@@ -370,7 +371,7 @@ def lists(tables):
             "/** The dialects, in the order of their numbers in target_lexicon.h, which begin with 1. */",
             f"export const DIALECTS: readonly [{names}];",
             "", "/**", " * A tool, or a group of tools, that names targets in its own way.",
-            *(f" * - `{it.name}`: {it.about}" for it in dialects), " */",
+            *(f" * - {names}: {about}" for names, about in said), " */",
             "export type Dialect = (typeof DIALECTS)[number] | " + " | ".join(f'"{name}"' for name, _ in others) + ";"],
     }
 

@@ -60,7 +60,7 @@ const cell = (label, ...inside) => {
  * The targets in a text, and the words that `check` refuses, which may be spelled like none. A list has only items. If
  * there is neither, the words that may be targets, and aren't understood, which otherwise are `unclear`.
  */
-function wordsOf(text) {
+function wordsIn(text) {
   const targets = targetsIn(text), starts = [...targets.map((it) => it.start), Infinity];
   if (!starts.some((start, index) => /\w/.test(text.slice(targets[index - 1]?.end ?? 0, start))))
     return { items: targets, unclear: [] };
@@ -70,6 +70,8 @@ function wordsOf(text) {
     items: [...targets, ...areLeftOut ? certain : refused].sort((one, other) => one.start - other.start) };
 }
 
+let lastRead = {}; // the last text, and its words
+const wordsOf = (text) => lastRead.text === text ? lastRead : lastRead = { text, ...wordsIn(text) };
 const linesOf = (text) => wordsOf(text).items.map((item) => item.text);
 
 // ---- rows
@@ -218,9 +220,11 @@ function fillRefused(row, target) {
   if (!inside.length) {
     inside.push(element("p", { class: "message" }, `${error.report.split(":", 1)[0]}: ${shown(error.part)}`));
     if (suggestion) inside.push(element("p", {}, ...question(suggestion, text, error)));
-    for (const { name, tools } of nearest)
+    const [, it, meant] = /^i(n ASCII it is|ts words name) `?([^`, ]+)`?$/.exec(error.note) ?? [];
+    if (meant) inside.push(element("p", {}, `I${it} `, offer(meant, text, meant), "."));
+    else if (error.note && !suggestion && !nearest.length) inside.push(element("p", {}, `Note: ${error.note}`));
+    for (const { name, tools } of meant ? [] : nearest)
       inside.push(element("p", {}, "Did you mean ", offer(name, text, name), ` of ${toolsOf(tools)}?`));
-    if (error.note && !suggestion && !nearest.length) inside.push(element("p", {}, `Note: ${error.note}`));
     inside.push(...soFar(fields));
   }
   const answer = element("td", { role: "cell", class: "refused", colspan: 7, "aria-colspan": 7 }, ...inside);
@@ -443,15 +447,10 @@ const isLongLink = () => location.hash.length > LONGEST_LINK;
 
 /** The link to what is in the text field, or null if that is too long for one. */
 function linkOf(lines) {
-  const page = `${pageUrl()}${chosen()}`;
   if (field.value.length > LONGEST_LINK) return null;
-  try {
-    const hash = lines.map((line) => encodeURIComponent(line.toWellFormed?.() ?? line)).join(",");
-    // also without targets: an address without # shows the first ones
-    return hash.length > LONGEST_LINK ? null : `${page}#${hash}`;
-  } catch {
-    return null; // an engine that has no toWellFormed, and a lone surrogate
-  }
+  const hash = lines.map((line) => encodeURIComponent(line.replace(/\p{Surrogate}/gu, "\ufffd"))).join(",");
+  // also without targets: an address without # shows the first ones
+  return hash.length > LONGEST_LINK ? null : `${pageUrl()}${chosen()}#${hash}`;
 }
 
 /** Says what needs to be said of the list, or nothing. */

@@ -7,8 +7,8 @@ const ABOUT = [
   [/^tv$/, /-apple-tvos/], [/^vision$/, /-apple-visionos/], [/^simulator$/, /-sim$|^(x86_64|i386)-apple-(ios|tvos)$/],
   [/^emulator$/, /^(aarch64|x86_64|i686)-linux-android$/], [/^(mobile|phone)$/, /-android|-apple-ios$/],
   [/^(raspberry|pi)$/, /^(aarch64-unknown-linux-(gnu|musl)|arm(v[67])?-unknown-linux-(gnu|musl)eabihf)$/],
-  [/^pi1$/, /^arm(v6)?-unknown-linux-(gnu|musl)eabihf$/], [/^(pico|rp2040|nrf51\d*)$/, /^thumbv6m-/],
-  [/^(pi2|beaglebone)$/, /^armv7-unknown-linux-(gnu|musl)eabihf$/], [/^nrf52\d*$/, /^thumbv7em-/],
+  [/^pi1$/, /^arm(v6)?-unknown-linux-(gnu|musl)eabihf$/], [/^(pico|rp2040|nrf51\d*|microbit)$/, /^thumbv6m-/],
+  [/^(pi2|beaglebone)$/, /^armv7-unknown-linux-(gnu|musl)eabihf$/], [/^(nrf52\d*|microbit)$/, /^thumbv7em-/],
   [/^pi[345]/, /^(aarch64-unknown-linux-(gnu|musl)|armv7-unknown-linux-(gnu|musl)eabihf)$/],
   [/^(pico2|rp2350)$/, /^thumbv8m\.main-.*hf$|^riscv32imac-unknown-none/], [/^stm32/, /^thumbv[678]e?m/],
   [/^(arduino|uno|attiny\d*|atmega\w*)$/, /^avr-/], [/^esp32c[23]$/, /^riscv32imc-/], [/^esp32p4$/, /^riscv32imafc-/],
@@ -28,7 +28,7 @@ const ABOUT = [
 
 // What is one word, and the word that names of targets or ABOUT have for it.
 const WORDS = [[/\brisc[- ]v/g, "riscv"], [/\bcortex[- ]m[01]\b\+?/g, "thumbv6m"], [/\bcortex[- ]m3\b/g, "thumbv7m"],
-  [/\bcortex[- ]m[47]f?\b/g, "thumbv7em"], [/\bcortex[- ]m23\b/g, "thumbv8m.base"],
+  [/\bcortex[- ]m[47]f?\b/g, "thumbv7em"], [/\bcortex[- ]m23\b/g, "thumbv8m.base"], [/\bmicro:bit\b/g, "microbit"],
   [/\bcortex[- ]m\d\d/g, "thumbv8m.main"], [/\bcortex[- ]r[4578]f?\b/g, "armv7r"], [/\bcortex[- ]r52\b/g, "armv8r"],
   [/\bcortex[- ]a([5789]|1[257]|32)\b/g, "armv7a"], [/\bcortex[- ]a\d+/g, "aarch64"],
   [/\b(raspberry )?(pi )?pico[- ]?(2?)( ?w)?\b/g, "pico$3"], [/\bpi[- ]zero[- ]2( ?w)?\b/g, "pi3"],
@@ -72,8 +72,10 @@ export function found(query, known) {
     return [target, words.map((word) => isWhole(word) ? 0 : begins(word) ? 1
       : word.length > 3 && word !== FOREIGN && texts.includes(word) ? 2 : 3)];
   });
-  const best = words.map((_, at) => Math.min(...rows.map(([, ranks]) => ranks[at]))),
-    unknown = words.filter((_, at) => best[at] === 3);
+  const nearest = words.map((_, at) => Math.min(...rows.map(([, ranks]) => ranks[at])));
+  // Beside a word that no target is about, one that only texts have means something else: `google cloud`.
+  const isOther = nearest.some((rank, at) => rank === 3 && /[a-z]/.test(words[at])),
+    best = nearest.map((rank) => rank === 2 && isOther ? 3 : rank), unknown = words.filter((_, at) => best[at] === 3);
   const misses = (ranks) => ranks.filter((rank, at) => rank > Math.max(best[at], 1)).length,
     fewest = Math.min(...rows.map(([, ranks]) => misses(ranks)));
   const ranked = rows.filter(([, ranks]) => unknown.length < words.length && misses(ranks) === fewest)

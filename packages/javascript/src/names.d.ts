@@ -131,8 +131,8 @@ export const DIALECTS: readonly ["debian", "go", "oci", "node", "gnu", "python",
  * A tool, or a group of tools, that names targets in its own way.
  * - `debian`: Debian's architectures, as `dpkg` names them: `amd64`, `armhf`, `musl-linux-arm64`.
  * - `go`: Go's ports, as `go tool dist list` prints them: `linux/amd64`.
- * - `oci`: Platforms of container images, as containerd writes them: `linux/arm/v7`.
- * - `node`: Names of npm's packages for a platform: `process.platform` and `process.arch` of Node with a dash between them, some with a C library: `linux-x64`, `linux-x64-musl`.
+ * - `oci`, `docker`: Platforms of container images, as containerd writes them: `linux/arm/v7`.
+ * - `node`, `npm`: Names of npm's packages for a platform: `process.platform` and `process.arch` of Node with a dash between them, some with a C library: `linux-x64`, `linux-x64-musl`.
  * - `gnu`: Prefixes of GNU's cross compilers, and strings that mean the same to config.sub: `x86_64-w64-mingw32`.
  * - `python`: Platforms of Python, as tags of wheels such as `macosx_11_0_arm64`, and as `sysconfig.get_platform()` prints them.
  * - `rust`: Targets of rustc, as `rustc --print target-list` lists them: `riscv64gc-unknown-linux-gnu`.

@@ -30,7 +30,7 @@ const decoder = new TextDecoder("utf-8", { ignoreBOM: true });
 
 /** An instance of the module: its calls and its memory, in which one call at a time has its arguments. */
 class Instance {
-  constructor(compiled, instance) {
+  constructor(compiled, instance = new WebAssembly.Instance(compiled)) {
     const { memory, __heap_base: base, ...others } = instance.exports;
     this.compiled = compiled;
     this.isSpent = false; // an instance is replaced after an exception in a call, and when its memory is large
@@ -143,16 +143,16 @@ class Instance {
   /** Writes a triple. Where it is, and the bytes of strings that this used. */
   triple(triple, place = FIRST, at = 0) {
     const { bytes, view } = this, { version, vendor, hasCustomVendor } = triple, numbers = numbersOf(triple),
-      start = this.base + place;
+      { major = 0, minor = 0, patch = 0 } = version ?? {}, start = this.base + place;
     view.setUint16(start, numbers.architecture, true);
     bytes[start + 2] = numbers.vendor;
     bytes[start + 3] = numbers.operatingSystem;
     bytes[start + 4] = numbers.environment;
     bytes[start + 5] = numbers.binaryFormat;
-    bytes[start + 6] = version === null ? 0 : 1;
-    bytes[start + 7] = version === null ? 0 : version.minor;
-    bytes[start + 8] = version === null ? 0 : version.patch;
-    view.setUint16(start + 10, version === null ? 0 : version.major, true);
+    bytes[start + 6] = version ? 1 : 0;
+    bytes[start + 7] = minor;
+    bytes[start + 8] = patch;
+    view.setUint16(start + 10, major, true);
     const [text, size] = hasCustomVendor ? this.text(vendor, at) : [0, 0];
     this.view.setUint32(start + VENDOR, text, true);
     this.view.setUint32(start + VENDOR + 4, size, true);
@@ -206,14 +206,13 @@ let loaded;
 
 function instance() {
   if (!loaded) throw new Error("the module is not loaded: await load(..) first");
-  if (loaded.isSpent) loaded = new Instance(loaded.compiled, new WebAssembly.Instance(loaded.compiled));
+  if (loaded.isSpent) loaded = new Instance(loaded.compiled);
   return loaded;
 }
 
 export async function load(module) {
-  if (module instanceof WebAssembly.Module) {
-    loaded = new Instance(module, new WebAssembly.Instance(module));
-  } else {
+  if (module instanceof WebAssembly.Module) loaded = new Instance(module);
+  else {
     const compiled = await WebAssembly.compile(module);
     loaded = new Instance(compiled, await WebAssembly.instantiate(compiled));
   }
@@ -365,6 +364,14 @@ function errorAt(it, status, text, given, dialect = 0) {
     report, note });
 }
 
+/** The triple of a string, by a call that takes the number of a dialect before it, or doesn't. */
+function tripleBy(call, text, ...dialect) {
+  const it = instance(), given = it.text(stringOf(text)),
+    status = it.call(call, ...dialect, ...given, it.base + FIRST, it.base + ERROR);
+  if (status === OK) return it.tripleAt();
+  throw errorAt(it, status, text, given, ...dialect);
+}
+
 /** Where the value of a field comes from. */
 function sourceAt(it, field, text, size) {
   const place = SOURCE_TABLE + field * SOURCE_SIZE, origin = ORIGINS[it.number(place)];
@@ -397,10 +404,7 @@ export class Triple {
   }
 
   static parse(text) {
-    const it = instance(), given = it.text(stringOf(text));
-    const status = it.call("parse", ...given, it.base + FIRST, it.base + ERROR);
-    if (status === OK) return it.tripleAt();
-    throw errorAt(it, status, text, given);
+    return tripleBy("parse", text);
   }
 
   static tryParse(text) {
@@ -410,10 +414,7 @@ export class Triple {
   }
 
   static read(text, dialect = null) {
-    const it = instance(), number = dialect === null ? 0 : dialectOf(dialect), given = it.text(stringOf(text));
-    const status = it.call("read", number, ...given, it.base + FIRST, it.base + ERROR);
-    if (status === OK) return it.tripleAt();
-    throw errorAt(it, status, text, given, number);
+    return tripleBy("read", text, dialect === null ? 0 : dialectOf(dialect));
   }
 
   static explain(text) {
@@ -431,7 +432,7 @@ export class Triple {
   }
 
   static of(given) {
-    const { version = null, hasCustomVendor: _custom, ...values } = givenValues(given);
+    const { version = null, hasCustomVendor: _, ...values } = givenValues(given);
     const it = instance(), numbers = {}, names = {};
     for (const field of Object.keys(values))
       if (!FIELDS.includes(field)) throw new TypeError(`a triple has no ${field}`);
@@ -587,7 +588,7 @@ export function changes(text) {
  */
 function foundIn(text, call, bytes) {
   const it = instance(), [start, size] = it.text(stringOf(text)), out = (start + size + 3) & ~3;
-  for (let most = 0, status = TOO_SMALL; status === TOO_SMALL; most = it.number(LENGTH)) {
+  for (let most = size >> 4, status = TOO_SMALL; status === TOO_SMALL; most = it.number(LENGTH)) {
     it.hold(size + bytes * most + ROOM);
     status = it.call(call, start, size, out, most, it.base + LENGTH);
     if (status !== OK && status !== TOO_SMALL) throw failure(status);

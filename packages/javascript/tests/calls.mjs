@@ -169,10 +169,11 @@ const tests = {
       "Unrecognized operating system: linx\n  x86_64-pc-linx\n            ^^^^ did you mean `linux`?");
     assert.equal(other("linux/amd64"), 'Triple.read(text, "go") or Triple.read(text, "oci")');
     assert.equal(other("amd64-pc-freebsd13.2"), "Triple.read(text)");
+    assert.equal(refusal("macos-arm64").note, "its words name aarch64-apple-darwin");
     for (const [text, said] of [["js/wasm", "go without a triple: a module for Go's own JavaScript; "],
       ["macosx_11_0_universal2", "python without a triple: several machines"]])
       assert(refusal(text).message.split("\n")[3].startsWith(`  note: it is a name of ${said}`), text);
-    for (const text of ["x86_64-linux/amd64", "linux/amd46", "foo"])
+    for (const text of ["x86_64-linux-foo", "linux/amd46", "foo"])
       assert.equal(refusal(text).message, refusal(text).report);
     const error = refusal("linux/amd64"), { name, message, field, text, part, start, end } = error;
     const { suggestion, reason, needsLibc } = error;
@@ -201,6 +202,7 @@ const tests = {
     assert.equal(askedBy(() => refusal("linux/amd46", (it) => Triple.read(it, "go"))),
       "read name_suggestion error_text note");
     assert.equal(askedBy(() => settleAll(["avr", "x", "arm64"])), "settle_lines");
+    assert.equal(askedBy(() => all.check("target: x86_64-linxu")), "check"); // once, though its answer has any length
     isCutOff = true;
     assert.throws(() => Triple.parse("avr"), { message: "cut off" });
     isCutOff = false;

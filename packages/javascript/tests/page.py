@@ -217,9 +217,13 @@ def refuses_and_suggests(page):
     press(page, ".suspicious .offer")
     page.until(f"{STATUS} === '5 targets: 2 parsed, 3 refused.'")
     same(page.run(FOCUSED), "x86_64-linux-gnu")
-    typed(page, "linux/amr64")
-    same(page.run(CELLS)[0][1], "Unrecognized architecture: linux/amr64"
-         "Note: its words say linux, and no single machine known here")
+    typed(page, "linux/amr64\nx86_64\u2013linux-gnu\u200b\nmacos-arm64")
+    same([it[1] for it in page.run(CELLS)],
+         ["Unrecognized architecture: linux/amr64Note: its words say linux, and no single machine known here",
+          "Unrecognized architecture: x86_64\\u{2013}linuxIn ASCII it is x86_64-linux-gnu.",
+          "Unrecognized architecture: macosIts words name aarch64-apple-darwin."])
+    press(page, ".refused .offer")
+    page.until(f"{TEXT} === 'linux/amr64\\nx86_64-linux-gnu\\nmacos-arm64'")
 
 
 def mistakes_come_first(page):
@@ -337,10 +341,12 @@ SEARCHES = {"macos": ["aarch64-apple-darwin", "x86_64-apple-darwin"], "wasm": ["
             "rpi 3": ["aarch64-unknown-linux-gnu", "armv7-unknown-linux-gnueabihf"], "cortex-r5f": ["armv7r-none-eabi"],
             "cortex-a7": ["armv7-unknown-linux-gnueabihf"], "iphone simulator": ["aarch64-apple-ios-sim"],
             "android emulator": ["aarch64-linux-android", "x86_64-linux-android"], "amd gpu": ["amdgcn-amd-amdhsa"],
-            "windows 7": ["x86_64-win7-windows-msvc"], "32 bit linux hard float": ["armv7-unknown-linux-gnueabihf"]}
+            "windows 7": ["x86_64-win7-windows-msvc"], "32 bit linux hard float": ["armv7-unknown-linux-gnueabihf"],
+            "micro:bit": ["thumbv7em-none-eabi", "thumbv6m-none-eabi"]}
 # What is said of words that are about no target, of words that no target has together, and with what is found.
 UNKNOWN = {"qwerty 9000": ("No target is about qwerty or 9000.", None),
            "nintendo switch": ("No target is about switch.", "armv6k-nintendo-3ds"),
+           "google cloud": ("No target is about google or cloud.", None),
            "macos 14": ("The names of these targets state no version, such as 14.", "aarch64-apple-darwin"),
            "iphone wasi": ("No target has all these words, but some of them:", "aarch64-apple-ios"), "the": ("", None)}
 
@@ -549,6 +555,7 @@ def is_accessible(page):
             assert wanted in roles, f"at {width} pixels there is no {wanted}"
         same([name.split()[0] for role, name in roles if role == "rowheader"],
              ["x86_64-pc-windws-msvc", "x86_64-unknown-linux-gnu"])
+        assert page.run("document.querySelector('label[for=search]').getClientRects().length"), f"at {width} pixels"
         same([[role for role, _ in roles].count("columnheader"), "status" in [role for role, _ in roles]], [8, True])
     page.run("document.getElementById('targets').focus()")
     reached = []
@@ -676,7 +683,7 @@ def says_that_it_needs_scripts(page, url):
     page.call("Emulation.setScriptExecutionDisabled", value=True)
     page.driver.get(url)
     said = " ".join(name for _, name in page.roles())
-    assert "which your browser doesn't run" in said and "Loading" not in said, said
+    assert "which your browser doesn't run" in said and "Loading" not in said and "Paste" not in said, said
     same([name for role, name in page.roles() if role in ("button", "combobox", "textbox", "searchbox")], [])
 
 
