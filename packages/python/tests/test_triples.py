@@ -162,7 +162,7 @@ class Values(Refused):
             self.assertRaisesRegex(TypeError, f"^the numbers of a version must be int, not {type(number).__name__}$",
                                    darwin.replace, version=(number,))
         for values in ({"cpu": "arm"}, {"architecture": "arm65"}, {"operating_system": "ios17"}, {"vendor": "ACME"},
-                       {"binary_format": "pe"},
+                       {"binary_format": "pe"}, {"operating_system": "ios", "version": "1_7"},
                        {"operating_system": "linux", "version": "1"}, {"operating_system": "ios", "version": "x"}):
             self.assertRaises(ValueError, Triple.from_dict, values)
         for call in (Triple, lambda: Triple("x86_64", "linux"), lambda: linux.replace(cpu=1),

@@ -176,9 +176,8 @@ class Triple(FactsOfTriple, Immutable):
         >>> Triple.from_dict({"architecture": "x86_64", "operating_system": "ios", "version": "17.1"})
         Triple('x86_64-unknown-ios17.1.0')
 
-        The fields are names, and the version is as it is printed; what is left out is as in `from_fields`. The other
-        answers of `to_dict` follow from the fields, and aren't looked at. Any other key raises a ValueError, as a name
-        does that the field doesn't have.
+        The fields are names, and the version is as it is printed; what is left out is as in `from_fields`, and the
+        other answers of `to_dict` aren't looked at. Any other key is a ValueError, as is a name that no value has.
         """
         if not isinstance(values, Mapping):
             raise TypeError(f"the fields must be a mapping, not {type(values).__name__}")
@@ -187,10 +186,11 @@ class Triple(FactsOfTriple, Immutable):
             raise ValueError(f"a triple has no {', '.join(shown(str(it)) for it in unknown)}")
         architecture, vendor, system, environment = (values.get(it, "unknown") for it in FIELDS[:4])
         form, version = values.get("binary_format"), values.get("version")
-        return cls.from_fields(
-            architecture, vendor, system, environment, form,
-            [int(it) for it in version.split(".")] if isinstance(version, str) else version,
-        )
+        if isinstance(version, str):
+            if not all(it.isascii() and it.isdigit() for it in version.split(".")):
+                raise ValueError(f"a version is numbers with dots between them, not {version!a}")
+            version = [*map(int, version.split("."))]
+        return cls.from_fields(architecture, vendor, system, environment, form, version)
 
     @classmethod
     def host(cls) -> Triple:
