@@ -47,14 +47,10 @@ A run ends without a word if its reader has closed. What can't be written is a f
 
 ## Inputs
 
-  $ target-lexicon settle --json z80 - <&-
-  [{"target":"z80","file":null,"line":null,"canonical":"z80-unknown-unknown-elf"}]
-  ! target-lexicon: <stdin>: Bad file descriptor (os error 9)
-  [3]
-  $ target-lexicon settle --json z80 - 0> /dev/null
-  [{"target":"z80","file":null,"line":null,"canonical":"z80-unknown-unknown-elf"}]
-  ! target-lexicon: <stdin>: Bad file descriptor (os error 9)
-  [3]
+  $ for how in '<&-' '0> /dev/null'; do eval "target-lexicon settle --json z80 - $how"; echo "status $?"; done | sort | uniq -c
+        2 ! target-lexicon: <stdin>: Bad file descriptor (os error 9)
+        2 [{"target":"z80","file":null,"line":null,"canonical":"z80-unknown-unknown-elf"}]
+        2 status 3
   $ target-lexicon check z80 <&-
 
 A line that isn't UTF-8 is refused, and the others are answered. A file that is no text ends the command:

@@ -41,8 +41,7 @@ Dashes and quotes of a word processor have their form in ASCII, and what words s
 What was answered stays if another file isn't there:
 
   $ echo z80 > list
-  $ target-lexicon check list
-  $ target-lexicon check -f list
+  $ target-lexicon check list -f list
   $ target-lexicon settle -f list -f nowhere
   z80-unknown-unknown-elf
   ! target-lexicon: nowhere: No such file or directory (os error 2)
@@ -141,9 +140,7 @@ An argument that is the path of a file is a text, in which targets are found. A 
   ! 3 of 3 targets refused
   $ target-lexicon check --from rust rust-toolchain.toml | head -n 1
   ! rust-toolchain.toml:3:30: error: unknown name of rust `x86_64-linux-gnuu`
-  $ target-lexicon check nowhere.yml | tail -n 1
-  !   note: no file has this name either
-  $ target-lexicon check --from rust nowhere.yml | tail -n 1
+  $ for call in check 'check --from rust'; do target-lexicon $call nowhere.yml | tail -n 1; done | uniq
   !   note: no file has this name either
   $ printf 'x86_64-linux\n\0\n' > bytes; target-lexicon check bytes
   ! note: 1 binary file not read
