@@ -419,7 +419,9 @@ async function show() {
       : "No targets. Paste some above, or names of any tool: one a line, or any text that has some, such as a "
         + "workflow."));
   }
-  notice([...unread.map((it) => `A target of the link can't be read: ${shown(it)}.`), ...leftOut(unclear)].join(" "));
+  byId("notice").textContent =
+    [...unread.map((it) => `A target of the link can't be read: ${shown(it)}.`), ...leftOut(unclear)].join(" ");
+  byId("notice").hidden = byId("notice").textContent === "";
 }
 
 /** That words of a text may be targets, and aren't understood; of many, the first ones are shown. */
@@ -447,16 +449,9 @@ const isLongLink = () => location.hash.length > LONGEST_LINK;
 
 /** The link to what is in the text field, or null if that is too long for one. */
 function linkOf(lines) {
-  if (field.value.length > LONGEST_LINK) return null;
   const hash = lines.map((line) => encodeURIComponent(line.replace(/\p{Surrogate}/gu, "\ufffd"))).join(",");
   // also without targets: an address without # shows the first ones
   return hash.length > LONGEST_LINK ? null : `${pageUrl()}${chosen()}#${hash}`;
-}
-
-/** Says what needs to be said of the list, or nothing. */
-function notice(text) {
-  byId("notice").textContent = text;
-  byId("notice").hidden = text === "";
 }
 
 /** What can't be read of the link that was followed. */
@@ -574,9 +569,7 @@ function copyLink(button) {
 
 /** Empties the text field, where the focus then is. */
 function clear() {
-  field.focus();
-  field.select();
-  if (!document.execCommand("delete")) field.value = "";
+  typeOver(0, field.value.length, "");
   return edited(true);
 }
 
