@@ -16,10 +16,11 @@ from reading import Untranslated
 HERE = Path(__file__).parent
 CRATES = {"src/lib.rs": ("--crate-name=target_lexicon", "--crate-type=lib"),
           "build.rs": ("--crate-name=build_script_build",)}
-# A constant that decides stays in the function that it decides about, as it may depend on the target or the host.
-UNFOLDED = ",".join(f"-SimplifyConstCondition-{it}" for it in ("after-inst-simplify", "after-const-prop", "final"))
-FLAGS = ("-Funsafe-code", "-Fnon-ascii-idents", "-Funreachable-code", "-Copt-level=0", "-Coverflow-checks=on",
-         "-Ztrim-diagnostic-paths=no", f"-Zmir-enable-passes={UNFOLDED}")
+# All that decides is in MIR, as the target may decide it: these passes of rustc drop only values that have no bytes.
+FLAGS = ("-Funsafe-code", "-Fnon-ascii-idents", "-Funreachable-code", "-Funreachable-patterns", "-Copt-level=0",
+         "-Firrefutable-let-patterns", "-Coverflow-checks=on", "-Ztrim-diagnostic-paths=no", "-Zmir-opt-level=0",
+         "-Zmir-enable-passes=" + ",".join(f"+{it}" for it in "LowerSliceLenCalls InstSimplify-before-inline RemoveZsts "
+                                           "UnreachableEnumBranching SimplifyCfg-final".split()))
 # What the build script writes, which is another host as for an older rustc; what answers it isn't proved.
 HOST = "Triple {{ architecture: Architecture::{}, vendor: Vendor::{}, operating_system: OperatingSystem::{}, " \
        "environment: Environment::{}, binary_format: BinaryFormat::{} }}"

@@ -195,6 +195,8 @@ REFUSED = {
     r"(?:(?!DefId).)*DefId\(\d+:\d+ ~ (?:CRATE\[|core\[\w+\]::fmt::Result\)))": "what another target has otherwise",
     r" Provided\(": "a function that a trait has for all types",
     r" disr_expr: (?!None,)": "a number of a variant",
+    r" (?:kind: Never|variants: \[\]|DefId\(\S+ ~ core\[\w+\]::convert::Infallible\))": "a type that has no values",
+    r" kind: (?:Enum|Struct)\( \w+#.* name: Plain\( (?!')": "a type with parameters",
 }
 # Where an impl begins, the module that it is in, the type and the trait, if they are paths, its methods, and its place.
 Impl = namedtuple("Impl", "begin module owner trait methods place")

@@ -65,8 +65,7 @@ class Types:
             own = [(f"{title}__{it[0]}", it[1]) if is_enum else f"{title}__{it}" for it in parts]
             known = self.enums[title] if is_enum else self.records[title]
             if sorted(own) != sorted(known) or not is_enum and own != known:
-                others = sorted(it if isinstance(it, str) else it[0] for it in {*own} ^ {*known})
-                raise Unknown(f"the type {path}, which isn't declared as {title} is in Coq: {' '.join(others)}")
+                raise Unknown(f"the type {path}, which isn't declared as {title} is in Coq")
             (self.constructors if is_enum else self.fields)[title] = own
             self.titles[path] = title
         return self.titles[path]
