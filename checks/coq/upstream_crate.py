@@ -15,6 +15,8 @@ from mir_grammar import plain
 FEATURES = "std", "arch_zkasm", "arch_z80"  # the last two decide nothing of ours
 PROOFS = "UpstreamCrate", "UpstreamTriple"  # about this crate
 BOTH = "Pairs", "Both"  # and about ours and it; Pairs is written
+# Its proofs are of MIR without the values that nothing needs, but with the constants that decide.
+PASSES = ",".join(f"-SimplifyConstCondition-{it}" for it in ("after-inst-simplify", "after-const-prop", "final"))
 UNPROVED = []  # a part of which something isn't proved, as isn't written what it needs
 
 
@@ -37,8 +39,8 @@ def write(_root, folder, crate, is_compared=False):
 
         def cargo(*words):
             ran = subprocess.run([HERE.parents[1] / "tools/cargo", "rustc", "--quiet", "--offline", "--lib",
-                                  "--package=target-lexicon", f"--target-dir={out}", "--", *FLAGS,
-                                  "-Cdebug-assertions=off", *words], cwd=out,
+                                  "--package=target-lexicon", f"--target-dir={out}", "--", *FLAGS[:-2],
+                                  f"-Zmir-enable-passes={PASSES}", "-Cdebug-assertions=off", *words], cwd=out,
                                  env={**os.environ, "RUSTC_BOOTSTRAP": "1"}, capture_output=True, text=True)
             if ran.returncode:
                 raise NoCompiler(f"{crate} doesn't build: {' '.join(ran.stderr.split())[-300:]}")
