@@ -226,12 +226,35 @@ An unknown environment after a machine and a system is wrong, and so is what is 
   ! more.yml:9:13: error: no tool has the name `linux/arn64`
   ! more.yml:9:26: error: no tool has the name `linux-arn64`
   ! more.yml:10:7: error: no tool has the name `arn64`
-  ! note: 2 words that may be targets aren't understood: --strict shows each
+  ! note: 1 word that may be a target isn't understood: --strict shows each
   ! 8 of 10 targets refused
   $ target-lexicon check more.yml 2>&1 | grep -o 'mean `.*arm64`'
   mean `linux/arm64`
   mean `linux-arm64`
   mean `arm64`
+
+A sign, two letters or a dash of a word processor may be wrong in the name of a program or of a file, too. A letter of one's own before a name, calls, and words of other tools aren't wrong:
+
+  $ cat > files.yml << 'END'
+  > platforms: [win-46, darwin_am64, "linux/ppcle64"]
+  > run: x86_64_w64-mingw32-windres gxx_linux-aarch46 $URL/app-i686-unknown-linux-mussl.tar.xz arm-linux-gnueabi-hf-gcc
+  > target: x86_64–unknown-linux-gnu
+  > run: armv7a-linux-androidabi24
+  > int arch64 = ARCH64 (); cpu=xx86_64; eelf64_sparc, linux/mips64x, x86_64-cc, ppc64be/le-linux, i386-pc-mswin32
+  > powerpc-unknown-eabisim 09_mips-linux-libc-dev x86_64-linux-thread-multi-ld wasm64-emscripten-node-debug
+  > END
+  $ target-lexicon check files.yml | grep -v '^!   '
+  ! files.yml:1:13: error: no tool has the name `win-46`
+  ! files.yml:1:21: error: no tool has the name `darwin_am64`
+  ! files.yml:1:35: error: no tool has the name `linux/ppcle64`
+  ! files.yml:2:6: error: no tool has the name `x86_64_w64-mingw32`
+  ! files.yml:2:33: error: no tool has the name `gxx_linux-aarch46`
+  ! files.yml:2:79: error: unrecognized environment `mussl`
+  ! files.yml:2:110: error: unrecognized binary format `hf`
+  ! files.yml:3:9: error: unrecognized architecture `x86_64\u{2013}unknown`
+  ! note: 1 word that may be a target isn't understood: --strict shows each
+  ! 8 of 9 targets refused
+  $ echo 'triplets: [x64-windows-static, arm64-osx]' > triplets; target-lexicon check --strict triplets
 
 Of a folder the files are read, except links and what tools make. A list is what has targets in half of its lines:
 

@@ -100,7 +100,7 @@ pub struct Evidence<'a> {
     level: Said<&'static str>,
     width: Said<PointerWidth>,
     /// The byte order that a misspelled machine's word ends with, such as `powerpcel`.
-    order: Said<Endianness>,
+    pub(crate) order: Said<Endianness>,
     pub(crate) floats: Said<FloatAbi>,
     /// A known vendor that isn't the usual one of many systems.
     vendor: Said<&'static str>,

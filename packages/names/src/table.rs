@@ -2329,11 +2329,11 @@ pub(crate) static NO_VENDORS: &[&str] = &[
 pub(crate) static OTHER_WORDS: &[&str] = &[
     "a29k", "alpha", "am33", "ap32", "arcle", "bpf", "c6x", "cr16", "cris", "crisv32", "d10v", "d30v", "dxil",
     "elbrus", "epiphany", "fr30", "frv", "ft32", "h8300", "hsail", "i860", "i960", "ip2k", "iq2000", "kalimba",
-    "kvx", "lanai", "le32", "le64", "lm32", "m32c", "m68hc11", "m88k", "mcore", "mep", "metag", "mic", "microblaze",
-    "microblazeel", "mn10300", "moxie", "nds32", "ns32k", "open8", "pru", "r600", "rl78", "rv32", "rv64", "score",
-    "shave", "spir", "spirv", "spirv32", "spu", "sw64", "tic6x", "tile", "tilepro", "unicore32", "v850", "vax",
-    "visium", "xcore", "xgate", "xstormy16", "arm7hl", "armbe", "armh", "pentium2", "pentium3", "rios1", "rios2",
-    "mpe", "threadx", "windowsce", "wali",
+    "kvx", "lanai", "le32", "le64", "lm32", "m32c", "m68hc11", "m88k", "mcore", "mep", "metag", "mic", "mips64x",
+    "microblaze", "microblazeel", "mn10300", "moxie", "nds32", "ns32k", "open8", "pru", "r600", "rl78", "rv32",
+    "rv64", "score", "shave", "spir", "spirv", "spirv32", "spu", "sw64", "tic6x", "tile", "tilepro", "unicore32",
+    "v850", "vax", "visium", "xcore", "xgate", "xstormy16", "arm7hl", "armbe", "armh", "armv5l", "eabisim",
+    "pentium2", "pentium3", "rios1", "rios2", "mpe", "mswin32", "threadx", "windowsce", "wali",
 ];
 
 pub(crate) static CUSTOM_VENDORS_OF_RUSTC: &[&str] = &[

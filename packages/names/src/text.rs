@@ -1,14 +1,14 @@
 //! The targets in any text.
-use crate::evidence::{is_of_no_triple, only_machine, said};
+use crate::evidence::{has_other_word, is_of_no_triple, only_machine, said};
 use crate::hints::{is_dash, is_typeset, LONGEST_PATH};
 use crate::meanings::meaning_with;
 use crate::name::Buffer;
-use crate::near::{ends_with_digit, is_of_tool, near};
+use crate::near::{ends_with_digit, is_of_tool, is_prefixed, near};
 use crate::suggestions::{architecture_of, vendor_suggestion};
 use crate::{Dialect, Evidence, Meaning, Meant, NameOf, Said, Sense};
 use core::fmt::Write;
 use core::iter::once;
-use target_lexicon::{Architecture, Field, OperatingSystem, TextPart, TripleRef, VendorRef};
+use target_lexicon::{Architecture, Environment, Field, OperatingSystem, TextPart, TripleRef, VendorRef};
 
 /// The words of a text that are targets or may be misspelled ones, from its start to its end. The text may be a list of
 /// targets, a file in YAML, TOML or JSON, a page in Markdown, a script, or what a command has printed.
@@ -250,12 +250,16 @@ impl<'a> TargetsIn<'a> {
             let is_rest = word.starts_with(|it: char| "-._".contains(it) || it.is_ascii_digit());
             let is_end = |it: &str| it.ends_with(PATTERN) && is_rest || it.ends_with('$') || is_escape(it, word);
             let is_begun = self.is_check && after.starts_with(['$', '%', '{']);
+            // What a variable is the folder of is a path: `$URL/foo-x86_64-linux.tar.gz`.
+            if let Some(end) = word.find('/').filter(|_| self.is_check && before.ends_with('$')) {
+                self.line = &rest[end..];
+            }
             if is_end(before) || is_begun || after.starts_with(PATTERN) && word.ends_with(['-', '.', '_']) {
                 continue;
             }
-            // In C a word before a semicolon is a variable: `target = x23;`.
-            let is_variable = self.is_check && before.ends_with(' ') && after.starts_with(';');
-            let has_value = self.value != Value::None && !is_key && !is_variable;
+            // In C a word before a semicolon is a variable, and others are calls: `target = x23;`, `ARCH64 ()`.
+            let is_variable = before.ends_with(' ') && after.starts_with(';') || after.trim_start().starts_with("()");
+            let has_value = self.value != Value::None && !is_key && !(self.is_check && is_variable);
             let is_value = has_value && self.value == Value::Target;
             let is_part = has_value && (is_value || is_alone(before, word, after));
             let hash = word.bytes().fold(0_usize, |hash, it| hash.wrapping_mul(31).wrapping_add(it.into()));
@@ -289,7 +293,8 @@ impl<'a> TargetsIn<'a> {
                 let goes_on = |it: &str| it.starts_with(|it: char| it.is_ascii_digit());
                 let is_cut = |it: &&str| ends_with_digit(it) && follows(it).strip_prefix('.').map_or(false, goes_on);
                 let whole = parts.clone().filter(|it| !is_cut(it));
-                let ends = whole.clone().flat_map(ends).flatten().filter(|it| it.matches('-').count() > 1);
+                let ends = whole.clone().flat_map(ends).flatten();
+                let ends = ends.filter(|it| it.contains('-') && it.matches(['-', '_']).nth(1).is_some());
                 let misspelled = || ends.clone().find(|it| near(it, false).is_some()).map(|it| (it, false));
                 if let Some(name) = parts.clone().find(is_name) {
                     // Another folder or file of a path may be misspelled.
@@ -455,7 +460,7 @@ fn given(word: &str, is_value: bool) -> Option<WordIs<'_>> {
 /// Whether a word that a check looks at is unclear, if it does.
 fn clarity(word: &str, is_value: bool, is_part: bool) -> Option<bool> {
     let has_more = || word.matches('-').count() > 1;
-    if let Some(is) = given(word, is_value) {
+    if let Some(is) = given(word, is_value).filter(|_| !is_prefixed(word)) {
         let is_clear = match is {
             WordIs::Name(_) => true,
             WordIs::Misspelled(it) => {
@@ -488,10 +493,15 @@ fn is_unclear(word: &str) -> bool {
     is_said && !is_runner && name_of(word).is_none()
 }
 
-/// Whether a word has the parts of a triple, of which one after the first is a known vendor: `i868-unknown-linux-gnu`.
+/// Whether a word has the parts of a triple, of which one after the first is a known vendor, or the third begins with a
+/// C library: `i868-unknown-linux-gnu`, `armv7a-linux-androidabi24`.
 fn is_like_triple(word: &str) -> bool {
     let is_vendor = |it| VendorRef::from_str(it).map_or(false, |it| !it.is_custom());
-    word.matches('-').count() > 2 && !word.contains(['.', '/']) && word.split('-').skip(1).any(is_vendor)
+    let mut parts = word.split('-').skip(1);
+    let library = parts.next().filter(|it| *it == "linux").and(parts.next()).unwrap_or("");
+    let begins = |it: &&str| library.starts_with(*it) && library.parse::<Environment>().is_err();
+    let has_vendor = || word.matches('-').count() > 2 && word.split('-').skip(1).any(is_vendor);
+    !word.contains(['.', '/']) && (has_vendor() || ["gnu", "musl", "android"].iter().any(begins))
 }
 
 /// With what labels of GitHub's runners begin.
@@ -542,7 +552,8 @@ fn is_of_unknown_system(word: &str) -> bool {
     let is_known = |it| VendorRef::from_str(it).map_or(false, |it| !it.is_custom());
     architecture_of(machine).is_some() && is_known(vendor) && {
         let mut room = Buffer::<LONGEST_PATH>::new();
-        write!(room, "{machine}-{vendor}-{system}").is_ok() && TripleRef::from_str(room.as_str()).is_err()
+        let is_written = write!(room, "{machine}-{vendor}-{system}").is_ok();
+        is_written && TripleRef::from_str(room.as_str()).is_err() && !has_other_word(system)
     }
 }
 

@@ -37,12 +37,11 @@ impl<'a> Word<'a> {
         let text = self.part.text;
         let explanation = TripleRef::explain(text);
         let (own, is) = (explanation.triple, self.is());
-        // What isn't spelled like a triple, and says all of one, is a name of some tool: vcpkg's `x64-windows-static`.
+        // What only says all of a triple is some tool's name: vcpkg's `x64-windows-static` and `arm64-osx`.
         let is_vendor = |it| VendorRef::from_str(it).map_or(false, |it| !it.is_custom());
-        let is_understood = || {
-            let is_unknown = own.is_err() && is == WordIs::Unknown && !text.split('-').any(is_vendor);
-            is_unknown && Evidence::of(text).sense().map_or(false, |it| it.level.is_empty()) && self.near().is_none()
-        };
+        let is_of = || own.map_or(is == WordIs::Unknown, |it| it.vendor.is_custom()) && !text.split('-').any(is_vendor);
+        let is_whole = |it: &Sense<'_>| it.level.is_empty() && it.triple.operating_system != OperatingSystem::None_;
+        let of_words = || Evidence::of(text).sense().filter(|it| is_whole(it) && is_of() && self.near().is_none());
         let is_known = own.as_ref().map_or(false, |it| !it.vendor.is_custom());
         // GNU takes any vendor, and versions of the Hurd, as in `i386-gnu0.3`.
         let is_hurd = |it: Sense<'_>| it.triple.operating_system == OperatingSystem::Hurd;
@@ -56,15 +55,14 @@ impl<'a> Word<'a> {
             NameOf::Spelling => it.sense.map_or(true, |it| !it.triple.vendor.is_custom()) || self.near().is_none(),
             NameOf::Dialect(_) => true,
         };
-        let of_tool = if is_known { None } else { meaning_with(text, &mut is_of_tool) };
+        let by_words = || Some(Meaning { of: NameOf::Words, sense: Ok(of_words()?) });
+        let of_tool = if is_known { None } else { meaning_with(text, &mut is_of_tool).or_else(by_words) };
         match (of_tool, is) {
             (Some(Meaning { of: NameOf::Dialect(dialect), sense: Err(why) }), _) => {
                 return Verdict::WithoutTriple(dialect, why);
             }
-            (Some(Meaning { of: NameOf::Dialect(_) | NameOf::Spelling, sense: Ok(it) }), _) => {
-                return Verdict::Right(it.triple);
-            }
-            _ if (self.is_unclear || is_understood()) && !is_strict => return Verdict::Unclear,
+            (Some(Meaning { sense: Ok(it), .. }), _) => return Verdict::Right(it.triple),
+            _ if self.is_unclear && !is_strict => return Verdict::Unclear,
             (_, WordIs::Misspelled(it)) if it.part.text == text => return Verdict::Unknown(Some(it)),
             _ => {}
         }
