@@ -664,10 +664,8 @@ pub unsafe extern "C" fn lexicon_note(
     };
     let find = |(dialect, text): (Option<Dialect>, &'static str)| match dialect {
         Some(it) => Note::of(text, dialect).filter(|_| it.read_loosely(text) == Err(NameError::Unknown)),
-        None => {
-            let is_whole = TripleRef::from_str(text).err()?.part.text == text;
-            Note::of(text, None).filter(|it| is_whole || !matches!(it, Note::Words(it) if it.sense().is_none()))
-        }
+        None if TripleRef::from_str(text).is_err() => Note::of(text, None),
+        None => None,
     };
     unsafe { write_suggestion(dialect_at(dialect).zip(text).and_then(find), out, out_size, length) }
 }

@@ -50,10 +50,9 @@ impl Helper {
         let Help { suggestion, note } = help_of_names(refusal, target.text);
         let is_said = refusal.has_reason() || refusal.is_of_level();
         let note = note.or_else(|| if is_said { None } else { self.note(target) });
-        let is_whole = refusal.is_of_triple(target.text);
-        let of_text = || Note::of(target.text.trim(), None).filter(|it| is_whole || matches!(it, Note::Ascii(_)));
-        let may_be = suggestion.is_none() && (is_whole || !target.text.is_ascii());
-        let note = note.or_else(|| if may_be { shown(of_text()) } else { None });
+        let may_be = suggestion.is_none() && (refusal.is_of_triple() || !target.text.is_ascii());
+        let of_text = || if may_be { shown(Note::of(target.text.trim(), None)) } else { None };
+        let note = note.or_else(of_text);
         let note = self.triple_note(target.text, refusal, note);
         let help = Help { suggestion, note };
         if self.remembered.len() < REMEMBERED

@@ -116,9 +116,9 @@ impl Refusal<'_> {
         self.reason.is_some()
     }
 
-    /// Whether it is of a whole target, which is no triple.
-    pub fn is_of_triple(&self, text: &str) -> bool {
-        matches!(self.names, Names::OfParts(_)) && self.part.text == text
+    /// Whether it is of a target that is no triple.
+    pub fn is_of_triple(&self) -> bool {
+        matches!(self.names, Names::OfParts(_))
     }
 
     /// Whether it only says that a level is lost.

@@ -310,6 +310,7 @@ A zero byte ends a target and an answer; of an answer of more than one line it c
   z80-unknown-unknown-elf|x86_64-unknown-linux|! <stdin>:2:8: error: unrecognized vendor `\nlinux`
   !   x86_64-\nlinux
   !          ^^^^^^^
+  !   note: its words name x86_64-unknown-linux
   ! <stdin>:3:7: error: unrecognized vendor `linux\r`
   !   arm64-linux\r
   !         ^^^^^^^ did you mean `linux`?

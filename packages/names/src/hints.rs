@@ -512,7 +512,7 @@ impl<'a> Note<'a> {
             }
             None if readers(text).next().is_some() || Meant::by(text).is_some() => None,
             // A number that nobody knows may be of the machine, as in `x86_46`: then it isn't the one that is said.
-            None => words().filter(|it| !says_digit_last(it)),
+            None => words().filter(|it| !says_digit_last(it) && (is_refused_whole(text) || says_a_triple(it))),
         }
     }
 }
@@ -529,6 +529,15 @@ impl fmt::Display for Note<'_> {
             Note::Words(evidence) => evidence.fmt(f),
         }
     }
+}
+
+/// Whether what is refused of a string as a triple is all of it.
+fn is_refused_whole(text: &str) -> bool {
+    TripleRef::from_str(text).map_or_else(|it| it.part.text == text, |_| false)
+}
+
+fn says_a_triple(note: &Note<'_>) -> bool {
+    matches!(note, Note::Words(it) if it.sense().is_some())
 }
 
 fn says_digit_last(note: &Note<'_>) -> bool {
