@@ -123,7 +123,11 @@ impl Reader {
                 let warning = meant.find(|it| it.triple == triple).and_then(|it| lost_level(text, it.level));
                 Ok(Meant::Triple(self.completed(triple), warning))
             }
-            Verdict::Right(_) | Verdict::Refused(_) | Verdict::NearVendor(..) => {
+            Verdict::NearVendor(triple, part) => {
+                let warning = Refusal::of_vendor(triple, part).into_warning();
+                Ok(Meant::Triple(self.completed(triple), Some(warning)))
+            }
+            Verdict::Right(_) | Verdict::Refused(_) => {
                 self.parse(text).map(|it| Meant::Triple(self.completed(it.triple), it.warning))
             }
         }

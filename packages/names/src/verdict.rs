@@ -30,6 +30,7 @@ impl<'a> Word<'a> {
     /// let verdict = |text| words_in(text).map(|it| it.verdict(false, |_| false)).next();
     /// assert!(matches!(verdict("x: x86_64-linux-gnuu"), Some(Verdict::Refused(it)) if it.part.text == "gnuu"));
     /// assert!(matches!(verdict("platform: linux/amd46"), Some(Verdict::Unknown(Some(_)))));
+    /// assert!(matches!(verdict("x: amd64-unkown-freebsd13.2"), Some(Verdict::NearVendor(_, it)) if it.start == 6));
     /// assert_eq!(verdict("platform: linux/foo"), Some(Verdict::Unclear));
     /// ```
     #[must_use]
@@ -60,6 +61,17 @@ impl<'a> Word<'a> {
         match (of_tool, is) {
             (Some(Meaning { of: NameOf::Dialect(dialect), sense: Err(why) }), _) => {
                 return Verdict::WithoutTriple(dialect, why);
+            }
+            // GNU's names have any vendor, which their triple hasn't: its own is that of the system, if that has one.
+            (Some(Meaning { of: NameOf::Dialect(Dialect::Gnu), sense: Ok(Sense { triple, .. }) }), _) => {
+                let (_, rest) = text.split_once('-').unwrap_or_default();
+                let (word, _) = rest.split_once('-').unwrap_or_default();
+                let said = VendorRef::from_str(word).map(|vendor| TripleRef { vendor, ..triple });
+                let is_near = |it: &TripleRef<'_>| {
+                    triple.vendor.as_str() == "unknown" && !is_meant(word) && vendor_suggestion(*it).is_some()
+                };
+                let near = |it| Verdict::NearVendor(it, TextPart { text: word, start: text.len() - rest.len() });
+                return said.ok().filter(is_near).map_or(Verdict::Right(triple), near);
             }
             (Some(Meaning { sense: Ok(it), .. }), _) => return Verdict::Right(it.triple),
             _ if self.is_unclear && !is_strict => return Verdict::Unclear,
