@@ -95,7 +95,7 @@ impl Helper {
                 "it has zero bytes: `-0` reads what ends with one, and UTF-16 must be UTF-8 here"
             }
             _ if self.takes == Takes::Spellings && text.contains('/') => "a name of another tool needs `--from`",
-            Place::Argument(_) if self.takes != Takes::Spellings && has_extension(text) => {
+            Place::Argument(_) if self.takes != Takes::Spellings && is_like_file(text) => {
                 "no file has this name either"
             }
             _ => return None,
@@ -104,10 +104,10 @@ impl Helper {
     }
 }
 
-/// Whether a string ends as the name of a file.
-fn has_extension(text: &str) -> bool {
+/// Whether a string begins as a path, or ends as the name of a file.
+fn is_like_file(text: &str) -> bool {
     let (_, end) = text.rsplit_once('.').unwrap_or_default();
-    !end.is_empty() && end.bytes().all(|it| it.is_ascii_lowercase())
+    text.starts_with(['.', '/']) || !end.is_empty() && end.bytes().all(|it| it.is_ascii_lowercase())
 }
 
 /// How others read a string, or why no triple means the same. `command` comes before the option.
@@ -140,7 +140,7 @@ fn help_of_names(refusal: &Refusal<'_>, target: &str) -> Help {
         }
         Names::OfDialect(dialect, name) => {
             let suggestion = dialect.suggestion(name);
-            let is_file = suggestion.is_none() && has_extension(name);
+            let is_file = suggestion.is_none() && is_like_file(name);
             let note = Note::of(name, Some(*dialect));
             (shown(suggestion), shown(note.filter(|it| !is_file || !matches!(it, Note::Mistake(Mistake::Path)))))
         }

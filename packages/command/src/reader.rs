@@ -6,7 +6,7 @@ use clap::ArgMatches;
 use std::cell::Cell;
 use target_lexicon::{OperatingSystem, Source, Sources, TripleRef, VendorRef};
 use target_names::{
-    is_vendor_of_rustc, meanings, read, vendor_suggestion, ChosenLibc, Dialect, NameError, TargetInfo, Verdict,
+    is_vendor_of_rustc, meanings, read, vendor_suggestion, ChosenLibc, Dialect, Evidence, NameError, TargetInfo, Verdict,
 };
 
 /// How targets are given.
@@ -119,6 +119,10 @@ impl Reader {
             }
             Verdict::Unknown(meant) => Err(Refusal::unknown_to_all(text, meant)),
             Verdict::Right(triple) if TripleRef::from_str(text) != Ok(triple) => {
+                // Each tool means its own system by the name of a machine, such as `amd64`.
+                if !text.contains('-') && !Evidence::of(text).has_system() {
+                    return Ok(Meant::NoTriple(self.parse(text).err()));
+                }
                 let mut meant = meanings(text).filter_map(|it| it.sense.ok());
                 let warning = meant.find(|it| it.triple == triple).and_then(|it| lost_level(text, it.level));
                 Ok(Meant::Triple(self.completed(triple), warning))

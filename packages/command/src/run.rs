@@ -152,8 +152,8 @@ impl<'a> Run<'a> {
         let has_text = arguments.get_many::<OsString>("target").unwrap_or_default().any(|it| it != "-");
         let Progress { targets, phrases, .. } = self.progress;
         let none = if has_text { "no targets found; `-f FILE` takes each line as one" } else { "no targets read" };
-        let lines = "`-f` takes each line as a target; without it those in a text are found";
-        let is_text = arguments.contains_id("file") && 2 * phrases > targets;
+        let lines = "each line of standard input or `-f` is a target; without `-f` those in a file are found";
+        let is_text = (arguments.contains_id("file") || !has_text) && 2 * phrases > targets;
         self.note(if targets == 0 { Some(none) } else { is_text.then_some(lines) })?;
         self.summarize(false)?;
         Ok(self.unread.max(i32::from(is_refused)))

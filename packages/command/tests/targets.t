@@ -135,12 +135,11 @@ An argument that is the path of a file is a text, in which targets are found. A 
   [{"target":"wasm32-wasip1","file":"rust-toolchain.toml","line":3,"cano
   {"target":"wasm32-wasip1","file":"rust-toolchain.toml","line":3,"canon
   wasm32-wasip1
-  $ target-lexicon check -f rust-toolchain.toml | grep -v '^!  ' | tail -n 2
-  ! note: `-f` takes each line as a target; without it those in a text are found
-  ! 3 of 3 targets refused
+  $ for it in '-f rust-toolchain.toml' -; do target-lexicon check $it < rust-toolchain.toml | grep '^! note: '; done | uniq
+  ! note: each line of standard input or `-f` is a target; without `-f` those in a file are found
   $ target-lexicon check --from rust rust-toolchain.toml | head -n 1
   ! rust-toolchain.toml:3:30: error: unknown name of rust `x86_64-linux-gnuu`
-  $ for call in check 'check --from rust'; do target-lexicon $call nowhere.yml | tail -n 1; done | uniq
+  $ for it in nowhere.yml '--from rust nowhere.yml' .github/nowhere /nowhere/it; do target-lexicon check $it | tail -n 1; done | uniq
   !   note: no file has this name either
   $ printf 'x86_64-linux\n\0\n' > bytes; target-lexicon check bytes
   ! note: 1 binary file not read
@@ -286,6 +285,14 @@ Of a folder the files are read, except links and what tools make. A list is what
   ! 6 of 10 targets refused
   $ printf 'platform: linux/amd64\n' > one.yml; target-lexicon matrix one.yml | cut -f 1,2
   x86_64-unknown-linux\tlinux/amd64 (esc)
+  $ echo 'arch: [avr, x64, x86, armhf, win32, linux_amd64]' > arch.yml; target-lexicon check arch.yml
+  $ target-lexicon settle arch.yml | grep -v '^!  '
+  avr-unknown-unknown
+  x86_64-unknown-linux
+  ! arch.yml:1:13: error: unrecognized architecture `x64`
+  ! arch.yml:1:18: error: unrecognized architecture `x86`
+  ! arch.yml:1:23: error: unrecognized architecture `armhf`
+  ! 3 of 5 targets refused
 
 ## Comments
 

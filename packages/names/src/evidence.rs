@@ -348,6 +348,12 @@ impl<'a> Evidence<'a> {
         !self.has_machine() && self.system == Said::Unsaid
     }
 
+    /// Whether a word says a system.
+    #[must_use]
+    pub fn has_system(&self) -> bool {
+        self.system != Said::Unsaid
+    }
+
     /// Whether no word says anything of a target.
     pub(crate) fn is_silent(&self) -> bool {
         self.is_empty() && self.library == Said::Unsaid && self.floats == Said::Unsaid && self.form == Said::Unsaid
