@@ -6,7 +6,8 @@ use clap::ArgMatches;
 use std::cell::Cell;
 use target_lexicon::{OperatingSystem, Source, Sources, TripleRef, VendorRef};
 use target_names::{
-    is_vendor_of_rustc, meanings, read, vendor_suggestion, ChosenLibc, Dialect, Evidence, NameError, TargetInfo, Verdict,
+    is_vendor_of_rustc, meanings, read, vendor_suggestion, ChosenLibc, Dialect, Evidence, NameError, TargetInfo,
+    Verdict,
 };
 
 /// How targets are given.

@@ -92,3 +92,4 @@ The manual has each key of JSON:
   $ in_shell() { [[ " ${WITHOUT-} " == *" $1 "* ]] || [[ $("$1" -c "$2" "$(type -P target-lexicon)" 2>&1) == $3 ]] || echo "$1 doesn't"; }
   $ in_shell zsh 'autoload -U compinit && compinit -u -D && source <($0 completions zsh) && echo $_comps[target-lexicon]' _target-lexicon
   $ in_shell fish '$argv[1] completions fish | source; complete -C "target-lexicon mat"' $'matrix\t*'
+  $ in_shell fish '$argv[1] completions fish | source; complete -C "target-lexicon names deb"; complete -C "target-lexicon completions "' $'debian\nbash\nelvish\n*'

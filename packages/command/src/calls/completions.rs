@@ -28,6 +28,14 @@ fn script(shell: Shell) -> String {
             "\n_target-lexicon \"$@\"",
             "\nif [ \"$funcstack[1]\" = \"_target-lexicon\" ]; then\n    _target-lexicon \"$@\"\nelse\n    compdef _target-lexicon target-lexicon\nfi",
         ),
+        // For fish it leaves out the values of an argument that is no option's.
+        Shell::Fish => arguments::command().get_subcommands().fold(script.into(), |script, call| {
+            let values = call.get_positionals().flat_map(Arg::get_possible_values);
+            let words: Vec<_> = values.map(|it| it.get_name().to_string()).collect();
+            let seen = format!("__fish_seen_subcommand_from {}", call.get_name());
+            let line = format!("complete -c target-lexicon -n \"{seen}\" -f -a \"{}\"\n", words.join(" "));
+            script + if words.is_empty() { "" } else { &line }
+        }),
         // For bash the names of arguments are among the words that it offers.
         _ => script.replace(" [TARGET]...", ""),
     }
