@@ -8,15 +8,12 @@ import { about, found } from "./search.mjs";
 
 const lexicon = { DIALECTS, FIELDS, ParseError, Triple, WRITTEN, meanings, translate };
 
-const LABELS = {
-  architecture: "Architecture", vendor: "Vendor", operatingSystem: "System", environment: "Environment",
-  binaryFormat: "Format",
-};
+const LABELS = { architecture: "Architecture", vendor: "Vendor", operatingSystem: "System", environment: "Environment",
+  binaryFormat: "Format" };
 // The tools as they write themselves, where that isn't the dialect's name with a capital. A string that is only spelled
 // like a triple is LLVM's.
 const TOOLS = { oci: "containers", gnu: "GNU", rust: "rustc", uname: "uname", rpm: "RPM", apk: "apk", pacman: "pacman",
-  dotnet: ".NET", conda: "conda",
-  spelling: "LLVM", triple: "a triple" };
+  dotnet: ".NET", conda: "conda", spelling: "LLVM", triple: "a triple" };
 const toolName = (tool) => TOOLS[tool] ?? tool[0].toUpperCase() + tool.slice(1);
 // The targets of which there are chips, with the word for one and for more. Those of a kind that is a mistake come
 // first.
@@ -415,7 +412,8 @@ async function show() {
     const whyNone = isLongLink()
       ? `The link isn't followed: its targets are longer than ${countOf(LONGEST_LINK)} characters. ` : "";
     say(whyNone + (/\w/.test(field.value)
-      ? "No word of this text is a target, or resembles one. Of a list, one a line and without spaces, each is shown."
+      ? "No word of this text is a target, or resembles one. Search finds targets by other words. Of a list, one a "
+        + "line and without spaces, each is shown."
       : "No targets. Paste some above, or names of any tool: one a line, or any text that has some, such as a "
         + "workflow."));
   }

@@ -28,13 +28,11 @@ export function driverFacts(triple) {
   return Object.entries({
     "calling convention": facts.defaultCallingConvention, "data model": facts.dataModel,
     "object format": facts.objectFormat, linker: isMingw ? "ld of mingw-w64, ld.lld" : LINKERS[facts.objectFormat],
-    "C library": facts.cLibrary,
-    "floating point": facts.floatAbi, "C types in bytes": sizes.join(", "),
+    "C library": facts.cLibrary, "floating point": facts.floatAbi, "C types in bytes": sizes.join(", "),
     "long double": layout(facts.longDoubleSize, facts.longDoubleAlignment),
     wchar_t: layout(facts.wcharSize, facts.wcharAlignment), "family": facts.family,
     "Arm version": facts.armVersion, "Arm profile": facts.armProfile, "like Unix": facts.isUnix ? "yes" : "no",
-    "LLVM target": triple.llvmTarget(),
-    "Debian's multiarch tuple": triple.multiarchTuple(),
+    "LLVM target": triple.llvmTarget(), "Debian's multiarch tuple": triple.multiarchTuple(),
   }).filter(([, answer]) => answer);
 }
 

@@ -34,7 +34,8 @@ const WORDS = [[/\brisc[- ]v/g, "riscv"], [/\bcortex[- ]m[01]\b\+?/g, "thumbv6m"
   [/\b(raspberry )?(pi )?pico[- ]?(2?)( ?w)?\b/g, "pico$3"], [/\bpi[- ]zero[- ]2( ?w)?\b/g, "pi3"],
   [/\bpi[- ]zero( ?w)?\b/g, "pi1"], [/\br?pi[- ]?(\d)/g, "pi$1"], [/\besp32[- ]([chps]\d)/g, "esp32$1"],
   [/\bsteam ?(deck|os)\b/g, "steamdeck"], [/\bnvidia jetson\b/g, "jetson"], [/\bwindows 7\b/g, "win7"],
-  [/\b(iphone|ipad) simulator\b/g, "ios simulator"], [/\b(ibm|system) z\b/g, "mainframe"]];
+  [/\b(iphone|ipad) simulator\b/g, "ios simulator"], [/\b(ibm|system) z\b/g, "mainframe"],
+  [/\biphone 5c?\b/g, "armv7s ios"], [/\biphone (3g|4)(s?)\b/g, "iphone$1$2"]];
 
 // Words that say nothing; and one that a text has of another machine than its target.
 const SILENT = /^(an?|and|for|in|my|of|on|or|the|to|with)$/, FOREIGN = "switch";

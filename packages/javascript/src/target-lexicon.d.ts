@@ -168,9 +168,7 @@ export class Triple {
   reasonWithoutName(dialect: Dialect, versions?: NamedVersions): string | null;
   /** The names in all dialects, with null for those that have none. */
   names(): Record<(typeof DIALECTS)[number], string | null>;
-  /**
-   * The triple with the usual environment of a C library of its system, if it states none; any other one as it is.
-   */
+  /** The triple with the usual environment of a C library of its system, if it states none; any other as it is. */
   complete(libc: ChosenLibc): Triple;
   /** The canonical form: two canonical triples with the same printed string are equal, so the string is a key. */
   settle(): Triple;
@@ -281,7 +279,8 @@ export function host(): Triple;
 export function version(): string;
 
 /**
- * Loads the module, from its bytes, or compiled, which takes effect at once. What was loaded before is replaced. The
- * package's own entries have done so.
+ * Loads the module, from its bytes, or compiled, as a WebAssembly.Module where TypeScript knows it, which takes effect
+ * at once. What was loaded before is replaced. The package's own entries have done so.
  */
-export function load(module: ArrayBuffer | ArrayBufferView | WebAssembly.Module): Promise<void>;
+export function load(module: ArrayBuffer | ArrayBufferView |
+  (typeof globalThis extends { WebAssembly: { Module: { prototype: infer Module } } } ? Module : never)): Promise<void>;

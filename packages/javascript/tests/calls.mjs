@@ -373,13 +373,11 @@ const tests = {
       ["armv6-unknown-linux-gnueabihf", "arm", "linux", { arm_version: "6" }, glibc],
       ["armv7-linux-androideabi", "arm", "android"],
       ["powerpc64le-unknown-linux-gnu", "ppc64", "linux", { node_byteorder: "little" }, glibc],
-      ["powerpc64-ibm-aix", "ppc64", "aix"],
+      ["powerpc64-ibm-aix", "ppc64", "aix"], ["x86_64-unknown-linux", "x64", "linux", {}, null],
       ["powerpc64-unknown-linux-gnu", "ppc64", "linux", { node_byteorder: "big" }, glibc],
-      ["x86_64-unknown-linux", "x64", "linux", {}, null],
       ["aarch64-apple-darwin", "arm64", "darwin"], ["i686-pc-windows-msvc", "ia32", "win32"],
-      ["x86_64-unknown-unknown-elf", "x64", "beos"],
-      ["x86_64-unknown-unknown-elf", "x64", "sunos"], ["riscv64gc-unknown-freebsd", "riscv64", "freebsd"],
-      ["unknown-unknown-linux", "vax", "linux"],
+      ["x86_64-unknown-unknown-elf", "x64", "beos"], ["x86_64-unknown-unknown-elf", "x64", "sunos"],
+      ["riscv64gc-unknown-freebsd", "riscv64", "freebsd"], ["unknown-unknown-linux", "vax", "linux"],
     ]) assert.equal(hostOf(...given), wanted);
     for (const { name } of rows.filter((it) => it.tool === "node" && it.read && it.written)) {
       if (name === "wasm32-wasi") continue; // napi-rs's, of no host
@@ -398,11 +396,9 @@ const tests = {
     for (const [platform, system, machines] of [
       ["aix", "aix", "ppc ppc64"], ["android", "linux", "arm arm64 ia32 riscv64 x64"],
       ["darwin", "darwin", "arm64 ia32 x64"], ["freebsd", "freebsd", "arm arm64 ia32 ppc64 riscv64 x64"],
-      ["haiku", "haiku", "ia32 x64"],
       ["linux", "linux", "arm arm64 ia32 loong64 mips mipsel mips64el ppc ppc64 riscv64 s390 s390x x64"],
-      ["netbsd", "netbsd", "arm arm64 ia32 x64"],
-      ["openbsd", "openbsd", "arm arm64 ia32 ppc64 riscv64 x64"], ["sunos", null, "ia32 x64"],
-      ["win32", "windows", "arm64 ia32 x64"],
+      ["netbsd", "netbsd", "arm arm64 ia32 x64"], ["haiku", "haiku", "ia32 x64"], ["sunos", null, "ia32 x64"],
+      ["openbsd", "openbsd", "arm arm64 ia32 ppc64 riscv64 x64"], ["win32", "windows", "arm64 ia32 x64"],
     ]) {
       for (const name of machines.split(" ").map((machine) => `${platform}-${machine}`)) {
         if (meanings(name).some((it) => it.dialect === "node" && it.reason)) without.push(name);

@@ -135,8 +135,7 @@ def shows_fields(page):
     same(page.run(STATUS), "8 targets: 8 parsed, 0 refused, 1 duplicate.")
     rows = page.run(CELLS)
     same(rows[0], ["arm64-linux-gnu canonical: aarch64-unknown-linux-gnu", "aarch64 alias arm64", "unknown", "linux",
-                   "gnu", "elf implied",
-                   "64 bits little-endian", "names", ""])
+                   "gnu", "elf implied", "64 bits little-endian", "names", ""])
     same(rows[1][2:4], ["nuttx custom", "unknown"])
     same(rows[2][0], "clever-unknown-unknown-none canonical: clever-unknown-none-elf")
     same([rows[3][0], rows[3][3]], ["aarch64-apple-ios17.1 canonical: aarch64-apple-ios17.1.0",
@@ -194,7 +193,7 @@ def takes_lists(page):
     same(page.run(NOTICE), "")
     typed(page, "targets: x86_64-foo-bar, wasm32-wasi", "1 target: 1 parsed, 0 refused")
     same(page.run(NOTICE), "Not understood, and perhaps a target: x86_64-foo-bar.")
-    typed(page, "nothing here", "No word of this text is a target, or resembles one.")
+    typed(page, "raspberry pi", "No word of this text is a target, or resembles one. Search finds targets")
 
 
 def refuses_and_suggests(page):
@@ -342,13 +341,14 @@ SEARCHES = {"macos": ["aarch64-apple-darwin", "x86_64-apple-darwin"], "wasm": ["
             "cortex-a7": ["armv7-unknown-linux-gnueabihf"], "iphone simulator": ["aarch64-apple-ios-sim"],
             "android emulator": ["aarch64-linux-android", "x86_64-linux-android"], "amd gpu": ["amdgcn-amd-amdhsa"],
             "windows 7": ["x86_64-win7-windows-msvc"], "32 bit linux hard float": ["armv7-unknown-linux-gnueabihf"],
-            "micro:bit": ["thumbv7em-none-eabi", "thumbv6m-none-eabi"]}
+            "micro:bit": ["thumbv7em-none-eabi", "thumbv6m-none-eabi"], "iphone 5": ["armv7s-apple-ios"]}
 # What is said of words that are about no target, of words that no target has together, and with what is found.
 UNKNOWN = {"qwerty 9000": ("No target is about qwerty or 9000.", None),
            "nintendo switch": ("No target is about switch.", "armv6k-nintendo-3ds"),
            "google cloud": ("No target is about google or cloud.", None),
            "macos 14": ("The names of these targets state no version, such as 14.", "aarch64-apple-darwin"),
-           "iphone wasi": ("No target has all these words, but some of them:", "aarch64-apple-ios"), "the": ("", None)}
+           "iphone wasi": ("No target has all these words, but some of them:", "aarch64-apple-ios"), "the": ("", None),
+           "iPhone 4s": ("No target is about iphone4s.", None)}
 
 
 def is_searched(page):
