@@ -156,7 +156,7 @@ class Values(Refused):
             self.assertRaises(ValueError, darwin.replace, version=version)
         for version in "13", b"13", 13, {13}, iter([13]), {"major": 13}:
             for call in (lambda it: darwin.replace(version=it), lambda it: darwin.name_in("python", macos=it)):
-                said = rf"^a version must be a tuple of numbers such as \(17, 2\), not {type(version).__name__}$"
+                said = rf"^a version must be a tuple of numbers such as \(11, 0\), not {type(version).__name__}$"
                 self.assertRaisesRegex(TypeError, said, call, version)
         for number in 1.5, "13", None:
             self.assertRaisesRegex(TypeError, f"^the numbers of a version must be int, not {type(number).__name__}$",

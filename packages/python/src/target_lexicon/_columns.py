@@ -80,8 +80,7 @@ def _each(targets: Iterable[Any], errors: Errors, answers_of: Callable[[Sequence
 
 def _plain(target: Any, index: int, errors: Errors) -> Union[str, Triple]:
     """A triple, or the target as a `str`, so that no subclass says how it is compared, hashed or searched. A missing
-    cell is the empty string, which is refused. Anything else is a TypeError, or the same.
-    """
+    cell is the empty string, which is refused. Anything else is a TypeError, or the same."""
     if isinstance(target, (str, Triple)):
         return target if isinstance(target, Triple) else str.__str__(target)
     if errors == "coerce" or target is None or isinstance(target, float) and target != target or type(

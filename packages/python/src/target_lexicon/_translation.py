@@ -23,7 +23,6 @@ class TranslationError(ParseError):
     `source` and `target` are the dialects. The other members are those of a `ParseError` about the whole name.
     """
 
-    # The name by which tracebacks and callers know it.
     __module__ = "target_lexicon"
 
     def __init__(self, text: str, source: Optional[str], target: str, needs_libc: bool, reason: str) -> None:
@@ -65,8 +64,7 @@ def translate(
     """
     from_number = NO_DIALECT if source is None else dialect_number(source)
     numbers = from_number, 0 if libc is None else libc_number(libc), versions_struct(versions), dialect_number(target)
-    utf8 = encoded(name, "the name of a target")
-    status, translated, reason = _library.translate(utf8, *numbers)
+    status, translated, reason = _library.translate(encoded(name, "the name of a target"), *numbers)
     if status == _names.OK:
         return translated
     if status not in (_names.TRIPLE_WITHOUT_NAME, _names.NEEDS_C_LIBRARY):

@@ -529,7 +529,7 @@ def _full_version(version: Optional[Sequence[int]]) -> Optional[Version]:
     if version is None:
         return None
     if not isinstance(version, (tuple, list)):
-        raise TypeError(f"a version must be a tuple of numbers such as (17, 2), not {type(version).__name__}")
+        raise TypeError(f"a version must be a tuple of numbers such as (11, 0), not {type(version).__name__}")
     for number in version:
         if not hasattr(number, "__index__"):
             raise TypeError(f"the numbers of a version must be int, not {type(number).__name__}")
