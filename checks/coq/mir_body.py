@@ -195,7 +195,7 @@ class Body:
             if not self.f.path.endswith("::" + m[1]):
                 raise Unknown(f"the constant of {m[1]}")
             constant = self.f.promoted[m[2]]
-        if constant is None:
+        if constant is None and what.rpartition("::")[0] not in self.types.declared:  # no variant is printed as one
             return self.aggregate(what, [])
         is_body = isinstance(constant, Function)
         return self.crate.Body(self.crate, constant, True).whole() if is_body else self.operand(constant, {})

@@ -169,8 +169,8 @@ class Parser:
         return feature in self.features if feature in FEATURES else None
 
     def visibility(self):
-        """Whether the whole crate sees it."""
-        return self.has("pub") and (self.peek() != "(" or self.skip("(") == ["crate"])
+        """Whether the whole crate sees it, and `pub` if others do too."""
+        return self.has("pub") and (self.peek() != "(" and "pub" or self.skip("(") == ["crate"])
 
     def path(self, first):
         """The names of a path that begins with one."""

@@ -294,8 +294,6 @@ class Crate:
         before = self.functions.get((owner, title))
         if before and bool(trait) != bool(before.trait):
             own, other = (before, f) if trait else (f, before)
-            if p.strict and "pub" in own.parser.tokens[own.at - 4:own.at - 2]:
-                raise p.unknown(f"{owner}::{name}, which a program would call in place of the trait's")
             self.functions[owner, title] = own
             f = other.renamed(self.prefix, f"{other.trait}_{title}")
             before = self.functions.get((owner, f.name))

@@ -83,14 +83,16 @@ def listed():
 
 
 def check_calls(root):
-    """That the listed calls have their bodies, and no other trait has a call of their types, or is the crate's: by its
-    name alone a theorem's function could be a type's own one, and the call that of a trait."""
+    """That the listed calls have their bodies, that no other trait has a call of their types, or is the crate's, and
+    that these have no other public function of their own, which a program would call in place of a trait's."""
     known = {plain(call): body for call, body, _ in listed()}
     owners = {it.partition(":")[0] for it in known}
     for features, _ in CONFIGURATIONS.values():
-        found = bodies(read(root, features))
+        crate = read(root, features)
+        own = {f"{of}::{f.name}" for (of, _), f in crate.functions.items() if of in owners and f.is_seen == "pub"}
+        found = bodies(crate)
         for it in sorted({*found, *(known if features else ())}):
-            is_public = it in known or ": " in it and (it.partition(":")[0] in owners or "::" in it)
+            is_public = it in {*known, *own} or ": " in it and (it.partition(":")[0] in owners or "::" in it)
             if is_public and known.get(it, "")[:4] != "mir_" and found.get(it, "-") != known.get(it):
                 raise Untranslated(f"the call {it} isn't that of calls.txt, which packages/rust/test --write writes")
 
