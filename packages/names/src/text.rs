@@ -48,7 +48,8 @@ use target_lexicon::{Architecture, Environment, Field, OperatingSystem, TextPart
 pub fn targets_in(text: &str) -> TargetsIn<'_> {
     let lines = text.strip_prefix('\u{feff}').unwrap_or(text);
     let is_list = lines.split('\n').all(|line| items(uncommented(line)).all(is_item));
-    TargetsIn { text, lines, line: "", is_list, value: Value::None, is_check: false, passed: [""; PASSED] }
+    let (value, passed) = (Value::None, [""; PASSED]);
+    TargetsIn { text, lines, line: "", is_list, value, is_option: false, is_check: false, passed }
 }
 
 /// The words of a text that a check looks at. Of a *list of targets*, in which more than half of the first items are
@@ -65,6 +66,7 @@ pub fn targets_in(text: &str) -> TargetsIn<'_> {
 /// let found = |text| words_in(text).map(|it| (it.part.text, it.is_unclear)).collect::<Vec<_>>();
 /// assert_eq!(found("platform: [linux/armv7, linux/foo]"), [("linux/armv7", false), ("linux/foo", true)]);
 /// assert_eq!(found("target: qrm-linux-musl"), [("qrm-linux-musl", true)]);
+/// assert_eq!(found("--platform=linux/amd64 ubuntu:22.04"), [("linux/amd64", false)]);
 /// assert_eq!(found("for aarch64-appledarwin"), [("aarch64-appledarwin", false)]);
 /// assert_eq!(found("an x86_64–linux–gnu, or Linux–arm64"), [("x86_64–linux–gnu", false)]);
 /// assert_eq!(found("0.5.0\ndist"), []);
@@ -101,6 +103,8 @@ pub struct TargetsIn<'a> {
     is_list: bool,
     /// What a word is the value of.
     value: Value,
+    /// Whether that is of an option, and ends with the word of the shell: `--platform=linux/amd64 ubuntu`.
+    is_option: bool,
     /// Whether [`words_in`] returned it.
     is_check: bool,
     /// Some words that weren't given: texts repeat theirs.
@@ -239,10 +243,15 @@ impl<'a> TargetsIn<'a> {
             }
             // An item of YAML is on its own.
             self.line = if word == "-" { after.trim_start() } else { after };
+            if self.is_option && before.contains([' ', '\t']) {
+                self.value = Value::None;
+            }
             let is_key = is_key(after);
             let key = || Value::of(word.rsplit('/').next().unwrap_or(word), self.is_check);
             if is_key {
                 self.value = key();
+                let begins = |it: &str| it.starts_with(|it| is_of_word(it) || it == '$');
+                self.is_option = word.starts_with('-') && after.strip_prefix('=').map_or(false, begins);
             } else if self.is_check && is_key_of_tool(before, word, after) {
                 self.value = if key() == Value::None { Value::None } else { Value::Part };
                 self.line = after[1..].trim_start();
