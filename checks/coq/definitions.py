@@ -18,8 +18,6 @@ from reading import (  # noqa: E402
 
 TYPES = {"ℕ": "ℕ", "List": "list", "Option": "option", "Bool": "bool", "Text": "string"}
 CONSTRUCTORS = {"Bool__true": "true", "Bool__false": "false", "Option__Some": "Some", "Option__None": "None"}
-# The functions of library.txt that Kit.v has instead of their clauses, of which the patterns are numbers.
-BY_HAND = {"slice_get", "without_leading_plus"}
 # Words of Coq, and names of its library and of Kit.v that definitions use.
 TAKEN = set("""fun let in if then else match with end forall exists return as fix cofix for where Type Prop Set list
     option bool string map length fst snd codes at using struct mod values prod sum pair nil cons inl inr left right
@@ -52,12 +50,13 @@ def mentions(it, name):
 
 
 class Coq:
-    """The Coq source. What is needed is written first; a Coq name that another module has taken has its module's before
-    it."""
+    """The Coq source. What is needed is written first. A Coq name is that of one definition, as proofs have it bare."""
 
     def __init__(self, root=ROOT):
         self.names, self.code = Names(root), code_types(root)
         laws = [law for crate in CRATES for law in Laws(crate, root).definitions.values()]
+        for module in {law.module for law in laws}:
+            self.names.check_names(module)
         self.laws = {law.name: law for law in laws}
         if second := next((law for law in laws if law is not self.laws[law.name]), None):
             raise Untranslated(f"{second.place()}: {second.name}: another crate has a law of this name")
@@ -79,6 +78,7 @@ class Coq:
             else:
                 self.need(self.laws[name])
         others = {*self.titles.values(), *self.names.module(LIBRARY).definitions} - TAKEN
+        others |= {it for of, name in self.titles if of for it in getattr(of.definitions.get(name), "locals", ())}
         if both := [it for it in self.variables if it in others or re.fullmatch(r"(a|whole)\d+", it)]:
             raise Untranslated(f"a variable has the name of another one, or of a definition, {min(both)}")
         text = "(* Written by checks/theorem from the definitions of crates/*/specs. *)\nRequire Import Kit.\n"
@@ -95,10 +95,10 @@ class Coq:
 
     def title(self, key, name):
         if key not in self.titles:
-            used = {*self.titles.values(), *TAKEN}
-            self.titles[key] = name if name not in used else f"{key[0].path[-1]}_{name}"
-            if self.titles[key] in used:
+            title = name if name not in TAKEN else f"{key[0].path[-1]}_{name}"
+            if title in {*self.titles.values(), *TAKEN}:
                 raise Untranslated(f"two definitions have the name {name}")
+            self.titles[key] = title
         return self.titles[key]
 
     def local(self, name):
@@ -268,9 +268,9 @@ class Coq:
             if found not in CONSTRUCTORS:
                 self.need_constructor(d, found.split("__")[0])
             return CONSTRUCTORS.get(found, found)
-        if kind == "definition" and found.name not in BY_HAND:
+        if kind == "definition":
             return self.need(found)
-        return found.name if kind in ("built in", "definition") else self.need_type(d.module, name)
+        return found.name if kind == "built in" else self.need_type(d.module, name)
 
     def need_constructor(self, d, owner):
         if owner in self.code and owner not in [name for of, name in self.done if of]:
@@ -352,7 +352,7 @@ class Coq:
         if self.is_variable(d, it):
             scope.add(it[1])
             return self.local(it[1])
-        if it[0] == "op":
+        if it[:2] == ("op", "∷"):
             code = f"({go(it[2])} ∷ {go(it[3])})"
             name = wholes.setdefault(str(it), f"whole{len(wholes)}") if inside else None
             return f"({code} as {name})" if inside and used is not None and mentions(used, name) else code

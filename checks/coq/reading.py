@@ -13,6 +13,7 @@ import re
 ROOT = pathlib.Path(__file__).resolve().parents[2]
 CRATES = ["lexicon_fields", "target_lexicon"]
 LIBRARY = ("library",)
+BUILT_IN = "_ ⊤ ⊥ zero Type Unit ℕ List Text".split()  # what has a meaning of its own, as library.txt's names have
 
 LEVELS = [["→", "↔"], ["⊎"], ["×"], ["≡", "≢", "<", "≤"], ["||"], ["&&"], ["=="], ["∷", "++"], ["+", "-"],
           ["*", "/", "%"], ["^"]]
@@ -182,6 +183,8 @@ class Definition:
     def clauses(self):
         """The patterns and the body of each clause."""
         found = []
+        if not self.chunks:
+            raise Untranslated(f"{self.place()}: {self.name} has no clause")
         for i, chunk in enumerate(self.chunks):
             with at(f"{self.place(i)}: {self.name}"):
                 found.append(self.clause(chunk))
@@ -233,7 +236,7 @@ class Module:
         self.path, self.file = path, relative(file, root)
         self.definitions, self.constructors, self.uses, self.typed = {}, {}, {}, {}
         try:
-            text = file.read_text(encoding="utf-8")
+            text = file.read_bytes().decode()
         except UnicodeDecodeError:
             raise Untranslated(f"{file} isn't UTF-8") from None
         for chunk, line in chunks(text):
@@ -246,25 +249,36 @@ class Module:
             elif not chunk.startswith("pub mod "):
                 raise Untranslated(f"{self.file}:{line}: this isn't understood: {chunk.splitlines()[0]}")
 
+    def new(self, table, name, value):
+        """A name, which is nothing else in the module: it would be taken for the other one."""
+        if any(name in it and it[name] != value for it in (self.definitions, self.constructors, self.uses, self.typed)):
+            raise Untranslated(f"{self.file}: a second {name}")
+        table[name] = value
+
     def read_use(self, it, _line):
         for item in it[3].split(",") if it[2] else [""]:
             words = item.split()
             full = it[1].split(".") + (words[0].split(".") if words else [])
-            self.uses[words[2] if len(words) == 3 else it[4] or full[-1]] = full
+            self.new(self.uses, words[2] if len(words) == 3 else it[4] or full[-1], full)
 
     def read_data(self, it, line):
-        items = re.findall(r"^  (\w+) : (.*)", it[3], re.M)
-        self.constructors |= {name: f"{it[1]}__{name}" for name, _ in items}
-        self.typed[it[1]] = Typed("data", parameters_in(it[2]), items, self.file, line)
+        items = self.read_items("data", it, line, r"  (\w+) : (.*)\n")
+        for name, _ in items:
+            self.new(self.constructors, name, f"{it[1]}__{name}")
 
     def read_record(self, it, line):
-        fields = re.findall(r"^  pub (\w+) : (.*?)(?=^  pub |\Z)", it[3] + "\n", re.M | re.S)
-        self.typed[it[1]] = Typed("record", parameters_in(it[2]), fields, self.file, line)
+        self.read_items("record", it, line, r"  pub (\w+) : ((?:.*\n(?!  \w))*.*\n)")
+
+    def read_items(self, kind, it, line, form):
+        """The constructors or fields of a type, which are all that it has."""
+        if not re.fullmatch(f"(?:{form})*", it[3] + "\n"):
+            raise Untranslated(f"{self.file}:{line}: a part of {it[1]} isn't understood")
+        items = re.findall(form, it[3] + "\n")
+        self.new(self.typed, it[1], Typed(kind, parameters_in(it[2]), items, self.file, line))
+        return items
 
     def declare(self, name, type, local_to=None):
-        if name in self.definitions:  # it would be taken for the other one
-            raise Untranslated(f"{self.file}: a second definition {name}")
-        self.definitions[name] = Definition(self, name, type, local_to)
+        self.new(self.definitions, name, Definition(self, name, type, local_to))
         return self.definitions[name]
 
     def read_type(self, it, _line):
@@ -297,7 +311,19 @@ class Names:
             found = Module(path, file, self.root)
         else:
             return None
+        if path != LIBRARY:
+            self.check_names(found)
         return found
+
+    def check_names(self, module):
+        """That a name of the library, or an operator, is what it is there."""
+        library = self.module(LIBRARY)
+        own = {*module.definitions, *module.constructors, *module.typed,
+               *(it for of in module.definitions.values() for it in of.locals),
+               *(it for it, path in module.uses.items() if path[:2] != ["Rattle", "std"] or path[-1] != it)}
+        taken = {*BUILT_IN, *library.definitions, *library.constructors, *library.typed}
+        if other := next((it for it in sorted(own) if it in taken or "◌" in it), None):
+            raise Untranslated(f"{module.file}: {other} isn't that of the library")
 
     def lookup(self, path):
         path = tuple(path)
@@ -306,8 +332,10 @@ class Names:
             return ("constructor", f"{path[at - 1]}__{path[-1]}") if path[at + 1:] else ("namespace", path)
         if "declared" in path and path[-1] == path[-2]:  # an enum or a struct of the code
             return "namespace", path[:-1] + ("TheVariants",)
-        if path[0] != "Rattle" or path[1] not in CRATES:
+        if path[:2] == ("Rattle", "std"):
             return self.exported(self.module(LIBRARY), path[-1])
+        if path[0] != "Rattle" or path[1] not in CRATES:
+            return "unknown", ".".join(path)
         if self.module(path):
             return "namespace", path
         if len(path) > 3 and "declared" not in path and self.module(path[:-1]):
@@ -317,7 +345,7 @@ class Names:
     def exported(self, module, name):
         if name in module.definitions:
             found = module.definitions[name]
-            return ("definition" if found.chunks else "built in"), found
+            return ("built in" if module.path == LIBRARY and not found.chunks else "definition"), found
         if name in module.constructors:
             return "constructor", module.constructors[name]
         if name in module.uses:
