@@ -27,7 +27,7 @@ use target_lexicon::{Architecture, Environment, Field, OperatingSystem, TextPart
 /// 2. a misspelled one, if with the name that is suggested it is one: `aarch64-apple-darwn`, `linux/amd46`;
 /// 3. a machine, a known vendor and something else, which is no known system: `x86_64-unknown-foo-gnu`;
 /// 4. a name of a machine only, such as `arm64`, as the value of a key with `target`, `triple`, `platform` or `arch` in
-///    it.
+///    it, except Go's `goarch`.
 ///
 /// Of a word that is none of these, a part between slashes is given, or else one between dots and after a number, if it
 /// is one: that of `target/wasm32-wasip1/release` or of `[target.wasm32-wasip1]`. A word is a part of a pattern, and isn't given, if
@@ -125,12 +125,12 @@ enum Value {
 impl Value {
     fn of(key: &str, is_check: bool) -> Value {
         let end = key.rsplit(['/', '.']).next();
-        let is_option = key.strip_prefix("target_").map_or(false, |it| CFG_OPTIONS.contains(&it));
+        let is_part = has(key, "goarch") || key.strip_prefix("target_").map_or(false, |it| CFG_OPTIONS.contains(&it));
         // A compiler's option for a processor: `-mcpu=rios2`, `-march=armv8-a`, `-xarch=sparc6`.
         let is_processor = ["-m", "-x"].iter().any(|it| key.starts_with(it)) && !has(key, "triple");
         match () {
             _ if is_processor => Value::None,
-            _ if (KEYS.iter().any(|it| has(key, it)) || has_arch(key)) && !is_option => Value::Target,
+            _ if (KEYS.iter().any(|it| has(key, it)) || has_arch(key)) && !is_part => Value::Target,
             _ if is_check && (PART_KEYS.iter().any(|it| has(key, it)) || matches!(end, Some("os" | "system"))) => {
                 Value::Part
             }
@@ -346,8 +346,8 @@ fn is_escape(before: &str, word: &str) -> bool {
 /// What a key has of which values are targets, or `arch`.
 const KEYS: [&str; 3] = ["target", "triple", "platform"];
 
-/// What a key has of which values are parts of targets, as `os` is.
-const PART_KEYS: [&str; 5] = ["cpu", "goos", "abi", "processor", "cmake_system_name"];
+/// What a key has of which values are parts of targets, as `os` is, and Go's `goarch`.
+const PART_KEYS: [&str; 6] = ["cpu", "goarch", "goos", "abi", "processor", "cmake_system_name"];
 
 /// Options of rustc's `cfg`, whose values are words for a part of a target: what follows `target_`.
 const CFG_OPTIONS: [&str; 8] = ["abi", "arch", "endian", "env", "family", "os", "pointer_width", "vendor"];
@@ -361,7 +361,7 @@ fn has(text: &str, word: &str) -> bool {
     windows.any(|it| it.eq_ignore_ascii_case(word.as_bytes()))
 }
 
-/// Whether a key has `arch` in it, as `goarch`, `archName` and `architecture` have, and `hierarchical` hasn't.
+/// Whether a key has `arch` in it, as `archName` and `architecture` have, and `hierarchical` hasn't.
 fn has_arch(key: &str) -> bool {
     let is_arch = |end: usize| {
         let after = key[end..].split(|it: char| !it.is_ascii_alphabetic()).next().unwrap_or("");

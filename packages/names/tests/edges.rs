@@ -370,7 +370,7 @@ fn triples_have_names_or_reasons() {
 const SUGGESTED: &str = "\
 -=go aux/ppc64, go aux7/ppc64, rust x86_64-unknown-linux-gnux, go linux/amr64, node linux-adm64, gnu linux-ppc64--gnu, \
     debian powerpcel, zig x86-lynx, apk arm-vx7, debian arm-elf, node x86-64, gnu x86-64, rust mipsel-sony-psx, \
-    debian powerpcle, gnu arceb-linux-gnu, node linux-x32, debian armv6, rust aarch64-apple-ios-iso, node openuse-x64, \
+    debian powerpcle, gnu arceb-linux-gnu, node win32-x32, debian armv6, rust aarch64-apple-ios-iso, node openuse-x64, \
     conda os-arm64, gnu armb-linux-gnueabi, zig arme-linux-gnueabi, debian spirv64, \
     go linux/wasm, oci linux/amd6/v4, rpm i486-linux-gnu, nix i486-linux, gnu x86_64-unknown-wali, zig archlinux, \
     rust x86_64-unknown-threadx, node linux-rv32, gnu mic-linux-gnu, node wsl-x64, node wii-x64

@@ -45,7 +45,7 @@ const ROWS: &[(&str, &[&str])] = &[
         "see <-x86_64-linux x", "see }-x86_64-linux x", "see }.x86_64-linux x", "see x86_64-linux-$ x",
         "see x86_64-linux.$ x", "  # linux/amd64", "x y", "- amd64 and more", "foo bar js/wasm or linu/am64",
         "foo bar x86_64-foo-msvc", "foo bar i368-w64-mingw32", "foo bar x86_64-foo-foo-gnu", "foo bar x86_64-unknown",
-        "foo bar a_b", "foo bar x86_64", "foo bar arm-based x86-64-v2", "foo bar amd64-linxu",
+        "foo bar a_b", "foo bar x86_64", "foo bar arm-based x86-64-v2", "foo bar amd64-linxu", "goarch: amd64 x",
         "foo bar x86_64-linux-gnux86_64-linux-gnux86_64-linux-gnu", "hierarchical: amd64 x", "archive: amd64 x",
         "platform: linux x", "platform: win32 x", "platform: linux/arm/foo x", "target: arm64/foo\nplease",
     ]),
@@ -85,7 +85,7 @@ const ROWS: &[(&str, &[&str])] = &[
     ("amd64", &[
         "triple: amd64", "platform: amd64", "TARGET: amd64", "target =amd64 x", "'target': amd64 x",
         "target:\tamd64 x", "target:\"amd64\" x", "target:[amd64] x y", "target:{amd64 x", "target:\r\n- amd64 x\r\n",
-        "target:\n- amd64 x", "target:'amd64' x", "goarch: amd64 x", "archName: amd64 x", "ARCHITECTURES: amd64 x",
+        "target:\n- amd64 x", "target:'amd64' x", "archName: amd64 x", "ARCHITECTURES: amd64 x",
     ]),
     ("amd64 arm64 i386 riscv64", &["target: amd64 x\n\"arm64\" x\n'i386' x\n] riscv64 x"]),
     ("x86_64-linux", &[
