@@ -28,7 +28,7 @@ ANSWERS = {
 # The file of the lists that the others need.
 NAMES = '''\
 """The statuses of the library for C, the names of its facts, and the tools and C libraries that callers name."""
-from typing import List, Literal, Optional
+from typing import Literal, Optional
 
 from ._named import NamedValue
 
@@ -54,7 +54,7 @@ FACT_NAMES = (
         return None
 
 
-#: The names of the dialects; the other names; and those that are only read, or only written.
+#: The names of the dialects, and the other names.
 {names}
 {libcs}
 

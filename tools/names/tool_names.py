@@ -335,7 +335,6 @@ def lists(tables):
     words = [it.name for it in dialects]
     written = ", ".join(f'"{it.name}"' for it in dialects if it.is_written)
     only_read = [it for it in dialects if not it.is_written]
-    only_written = [it for it in dialects if not it.is_read]
     python_names = ", ".join(f'"{name}": "{it.name}"' for name, it in others)
     said = [(", ".join(f"`{name}`" for name in [it.name, *it.other_names]), it.about) for it in dialects]
     return {
@@ -355,9 +354,7 @@ def lists(tables):
             f"{' and '.join(f'{name} is {it.name}' for name, it in others)}.",
             f"Names of {' and '.join(it.name for it in only_read)} are only read."],
         "the dialects' names for Python": [
-            f"DialectName = {literal([*words, *(name for name, _ in others)])}", f"OTHER_NAMES = {{{python_names}}}",
-            f"ONLY_READ = [{', '.join(f'Dialect.{it.constant}' for it in only_read)}]",
-            f"ONLY_WRITTEN: List[Dialect] = [{', '.join(f'Dialect.{it.constant}' for it in only_written)}]"],
+            f"DialectName = {literal([*words, *(name for name, _ in others)])}", f"OTHER_NAMES = {{{python_names}}}"],
         "the other names of dialects for JavaScript": [
             "const OTHER_NAMES = { " + ", ".join(f'{name}: "{it.name}"' for name, it in others) + " };"],
         "the dialects for the documentation": [

@@ -91,6 +91,10 @@ class Columns(unittest.TestCase):
             self.assertEqual((call([*missing, "arm64"]), call([])), (call(["", "", "", "arm64"]), []))
         triples = [*map(Triple, ("arm64-linux", "x86_64-acme-linux", "armv6k-nintendo-horizon-gnu"))]
         self.assertEqual(target_lexicon.settle_all([*triples, None] * 2), [*(it.canonical for it in triples), None] * 2)
+        names = [*triples, "arm64", None, "amd46", "\udcff", "arm64"]
+        self.assertEqual(target_lexicon.settle_all(names, dialect="debian")[3:],
+                         ["aarch64-unknown-linux-gnu", None, None, None, "aarch64-unknown-linux-gnu"])
+        self.assertRaisesRegex(ValueError, "the dialect must be", target_lexicon.settle_all, [None], "raise", "")
         found = [it._asdict() for it in target_lexicon.facts_all(["avr", *triples], "coerce")[1:]]
         self.assertEqual(found, [it.to_dict() for it in triples])
 

@@ -24,9 +24,8 @@ class Table(unittest.TestCase):
         others = set(_dialects.OTHER_NAMES)
         self.assertEqual(others, {name for it in tools for name in it["also"]})
         self.assertEqual(set(typing.get_args(_dialects.DialectName)), {*Dialect, *others})
-        for way, of in ("read", _dialects.READ), ("written", _dialects.WRITTEN):
-            self.assertEqual(set(of), {it["tool"] for it in tools if it[way]})
-            self.assertEqual(set(of), {it.tool for it in NAMES if getattr(it, way)})
+        for way in "read", "written":
+            self.assertEqual({it["tool"] for it in tools if it[way]}, {it.tool for it in NAMES if getattr(it, way)})
         self.assertEqual(set(typing.get_args(_dialects.ChosenLibcName)), {*ChosenLibc})
         self.assertIs(Dialect("docker"), Dialect.OCI)
 
@@ -244,7 +243,7 @@ class Names(unittest.TestCase):
         for call in linux.name_in, linux.complete, lambda it: target_lexicon.translate("amd64", "debian", it):
             self.assertRaises(TypeError, call, None)
         self.assertRaisesRegex(ValueError, "did you mean glibc or mingw\\?$", linux.complete, "gnu")
-        for value, meant in (("Go", "go"), ("golang", "go"), ("rustc", "rust"), ("dotent", "dotnet"),
+        for value, meant in (("Go", "go"), ("golang", "go"), ("deb", "debian"), ("rustc", "rust"), ("dotent", "dotnet"),
                              ("Docker", "docker")):
             self.assertRaisesRegex(ValueError, f", not {value}; did you mean {meant}\\?$", linux.name_in, value)
 

@@ -23,7 +23,7 @@ import zipfile
 
 import target_lexicon
 import lists
-from target_lexicon import ParseError, Triple, _dialects
+from target_lexicon import ParseError, Triple
 
 HERE = os.path.dirname(os.path.abspath(__file__))
 PRINTS = "import target_lexicon; print(target_lexicon.Triple('arm64-linux'), target_lexicon.LIBRARY_PATH)"
@@ -251,15 +251,16 @@ class Command(unittest.TestCase):
 
         def canonical(call):
             return lambda it: {"canonical": call(it).canonical}
+        tools = lists.other_tools()["tools"]
         calls = {"facts": lambda it: Triple(it).to_dict(), "settle": canonical(Triple),
                  "settle --libc musl": canonical(lambda it: Triple(it).complete("musl")),
                  "settle --from llvm": canonical(Triple.read),
-                 **{f"settle --from {tool}": canonical(lambda it, tool=tool: Triple.read(it, tool))
-                    for tool in _dialects.READ},
+                 **{f"settle --from {it['tool']}": canonical(lambda name, tool=it["tool"]: Triple.read(name, tool))
+                    for it in tools if it["read"]},
                  "translate --from oci --to rust --libc musl": lambda it: {
             "name": target_lexicon.translate(it, "oci", "rust", "musl")},
-                 **{f"translate --to {tool}": lambda it, tool=tool: {"name": Triple(it).name_in(tool)}
-                    for tool in _dialects.WRITTEN}}
+                 **{f"translate --to {it['tool']}": lambda text, tool=it["tool"]: {"name": Triple(text).name_in(tool)}
+                    for it in tools if it["written"]}}
         for words, call in calls.items():
             given = names if "--from" in words and "llvm" not in words else targets
             ran = run(COMMAND, *words.split(), "-0", "--json", input="".join(f"{it}\0" for it in given))

@@ -10,6 +10,7 @@ from operator import getitem, itemgetter
 from typing import Any, Callable, Dict, Iterable, List, Literal, Optional, Sequence, Tuple, TypeVar, Union
 
 from . import _library, _names
+from ._errors import ParseError
 from ._facts import FACTS, Facts
 from ._triple import Triple
 from ._values import Architecture, BinaryFormat, Environment, OperatingSystem, Vendor
@@ -31,17 +32,22 @@ _in_order = itemgetter(*map(_names.FACT_NAMES.index, FACTS))
 _value_of: Callable[[Sequence[Any], int], Any] = getitem
 
 
-def settle_all(targets: Iterable[Union[str, Triple, None]], errors: Errors = "raise") -> List[Optional[str]]:
+def settle_all(targets: Iterable[Union[str, Triple, None]], errors: Errors = "raise",
+               dialect: Union[_names.Dialect, _names.DialectName, None] = None) -> List[Optional[str]]:
     """The canonical string of each target, or None for one that is refused. Much faster than a loop over `Triple`.
 
     >>> settle_all(["arm64-linux-gnu", "aarch64-unknown-linux-gnu", "x86_64-pc-linx"])
     ['aarch64-unknown-linux-gnu', 'aarch64-unknown-linux-gnu', None]
+    >>> settle_all(["linux/arm64", "linux/amd46"], dialect="oci")  # names of a tool, as Triple.read takes them
+    ['aarch64-unknown-linux', None]
 
     A missing cell of a column, which is None, NaN or `pandas.NA`, is as a target that is refused. Anything else but a
     `str` or a triple raises a TypeError that has it and its index; with `errors="coerce"`, as in pandas, it is as a
     missing cell. A single `str`, a mapping or a table, such as a DataFrame, is a TypeError.
     """
-    return _each(targets, errors, _canonical_texts, lambda triple: triple.canonical)
+    def keys(names: Sequence[str]) -> List[Optional[str]]:
+        return _canonical_texts(names) if dialect is None else [_canonical_name(it, dialect) for it in names]
+    return _each(targets, errors, keys, lambda triple: triple.canonical)
 
 
 def facts_all(targets: Iterable[Union[str, Triple, None]], errors: Errors = "raise") -> List[Facts]:
@@ -100,6 +106,14 @@ def _canonical_texts(targets: Sequence[str]) -> List[Optional[str]]:
     out = ctypes.create_string_buffer(len(utf8) + _library.MAX_GROWTH * len(targets) + 1)
     _library.check(_library.settle_lines(utf8, len(utf8), out, len(out), None))
     return [line or None for line in out.value.decode().split("\n")[:-1]]
+
+
+def _canonical_name(name: str, dialect: Union[_names.Dialect, _names.DialectName]) -> Optional[str]:
+    """The canonical string of what a name means, or None."""
+    try:
+        return Triple.read(name, dialect).canonical
+    except ParseError:
+        return None
 
 
 class _Answered(ctypes.Structure):

@@ -2,14 +2,10 @@
 from typing import Type, Union
 
 from ._named import NamedValue, shown
-from ._names import ONLY_READ, ONLY_WRITTEN, OTHER_NAMES, ChosenLibc, ChosenLibcName, Dialect, DialectName
+from ._names import OTHER_NAMES, ChosenLibc, ChosenLibcName, Dialect, DialectName
 
 #: The number in the library for C of no dialect: the string is spelled like a triple.
 NO_DIALECT = 0
-
-# Those that are read and those that are written, in the order of answers.
-READ = [*ONLY_READ, *(it for it in Dialect if it not in ONLY_READ + ONLY_WRITTEN)]
-WRITTEN = [*(it for it in Dialect if it not in ONLY_READ + ONLY_WRITTEN), *ONLY_WRITTEN]
 
 
 def dialect_number(dialect: Union[Dialect, DialectName]) -> int:
@@ -28,8 +24,8 @@ def _number(value: str, of: Type[NamedValue], what: str) -> int:
     names = list(of)
     if value not in names:
         word, known = value.lower(), [*names, *(OTHER_NAMES if of is Dialect else ())]
-        near = ["glibc or mingw"] if word == "gnu" else [it for it in known if word.startswith(it)]
-        near = near or [it for it in known if len(it) == len(word) and sorted(it) == sorted(word)]
-        meant = f"; did you mean {near[0]}?" if near else ""
+        near = [it for it in known
+                if word.startswith(it) or word[1:] and it.startswith(word) or sorted(it) == sorted(word)]
+        meant = f"; did you mean {'glibc or mingw' if word == 'gnu' else near[0]}?" if near else ""
         raise ValueError(f"the {what} must be one of {', '.join(names)}, not {shown(value)}{meant}")
     return names.index(of(value)) + 1

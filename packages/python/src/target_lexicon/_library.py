@@ -11,7 +11,7 @@ import itertools
 import os
 import sys
 from ctypes import POINTER, Structure, c_bool, c_char, c_char_p, c_size_t, c_uint8, c_uint16, c_uint32, c_void_p
-from typing import TYPE_CHECKING, Any, Callable, Iterator, List, Optional, Sequence, Tuple, Type
+from typing import TYPE_CHECKING, Any, Callable, Iterator, Optional, Sequence, Tuple, Type
 
 from ._names import (
     FACT_NAMES, FIELDS, NEEDS_C_LIBRARY, NO_SUCH_CHANGE, NO_SUGGESTION, OK, TOO_SMALL, TRIPLE_WITHOUT_NAME,
@@ -144,29 +144,18 @@ class FindingStruct(Struct):
 _load_file = getattr(ctypes, "PyDLL", ctypes.CDLL)
 
 
-def _candidates() -> Iterator[str]:
-    """The files and names to load the library by: the first one that is there is taken."""
-    if os.path.exists(_PACKAGE_FILE):
-        yield _PACKAGE_FILE
-    elif os.environ.get("TARGET_LEXICON_LIBRARY"):
-        yield os.environ["TARGET_LEXICON_LIBRARY"]
-    else:
-        # Not by `ctypes.util.find_library`, which runs the compilers that it finds on the path.
-        yield {"darwin": f"libtarget_lexicon.{_CALLS_VERSION}.dylib",
-               "win32": "target_lexicon.dll"}.get(sys.platform, _NAME)
-
-
 def _load() -> Tuple[str, ctypes.CDLL]:
-    failures: List[str] = []
-    for name in _candidates():
-        try:
-            return name, _load_file(name)
-        except OSError as error:
-            failures.append(str(error))
-    raise ImportError(
-        f"target_lexicon needs the shared library libtarget_lexicon {_CALLS_VERSION}: in the package as "
-        f"{_PACKAGE_FILE}, which can't be within a zip archive, as the file that the variable TARGET_LEXICON_LIBRARY "
-        f"names, or where the loader finds {_NAME} ({'; '.join(failures)})")
+    # Not by `ctypes.util.find_library`, which runs the compilers that it finds on the path.
+    installed = {"darwin": f"libtarget_lexicon.{_CALLS_VERSION}.dylib", "win32": "target_lexicon.dll"}.get(
+        sys.platform, _NAME)
+    name = _PACKAGE_FILE if os.path.exists(_PACKAGE_FILE) else os.environ.get("TARGET_LEXICON_LIBRARY") or installed
+    try:
+        return name, _load_file(name)
+    except OSError as error:
+        raise ImportError(
+            f"target_lexicon needs the shared library libtarget_lexicon {_CALLS_VERSION}: in the package as "
+            f"{_PACKAGE_FILE}, which can't be within a zip archive, as the file that the variable "
+            f"TARGET_LEXICON_LIBRARY names, or where the loader finds {_NAME} ({error})") from None
 
 
 #: The file or the name by which the library was loaded, and the library.
