@@ -48,23 +48,26 @@ function shown(text) {
 const code = (text) => element("code", {}, shown(text));
 const small = (...inside) => element("small", {}, ...inside);
 const dim = (...inside) => element("span", { class: "dim" }, ...inside);
-const cell = (label, ...inside) => {
-  const value = element("div", {}, ...inside);
-  return element("td", { role: "cell", "data-label": label }, value);
-};
+const cell = (label, ...inside) =>
+  element("td", { role: "cell", "data-label": label }, element("div", {}, ...inside));
 
 /**
- * The targets in a text, and the words that `check` refuses, which may be spelled like none. A list has only items. If
- * there is neither, the words that may be targets, and aren't understood, which otherwise are `unclear`.
+ * The targets in a text, and the words that `check` refuses, which may be spelled like none. A list has only items. Of
+ * another text `others` are words that may be targets: names of a machine only, and those that aren't understood, which
+ * are items if no other word is one.
  */
 function wordsIn(text) {
-  const targets = targetsIn(text), starts = [...targets.map((it) => it.start), Infinity];
-  if (!starts.some((start, index) => /\w/.test(text.slice(targets[index - 1]?.end ?? 0, start))))
-    return { items: targets, unclear: [] };
+  const targets = targetsIn(text), starts = [...targets.map((it) => it.start), Infinity],
+    rest = starts.map((start, index) => text.slice(targets[index - 1]?.end ?? 0, start)).join(" ");
+  if (!/\w/.test(rest)) return { items: targets, others: [] };
   const refused = check(text).filter((it) => it.text === it.part && !starts.includes(it.start)),
-    certain = refused.filter((it) => !it.isUnclear), areLeftOut = targets.length + certain.length > 0;
-  return { unclear: areLeftOut ? refused.filter((it) => it.isUnclear) : [],
-    items: [...targets, ...areLeftOut ? certain : refused].sort((one, other) => one.start - other.start) };
+    certain = refused.filter((it) => !it.isUnclear), hasCertain = targets.length + certain.length > 0;
+  const items = [...targets, ...hasCertain ? certain : refused].sort((one, other) => one.start - other.start),
+    words = new Set(rest.replace(/(^|\s)#.*/gm, "").match(/[\w./+-]+/g)),
+    machines = targetsIn(`arch: ${[...words].join(" ")}`).filter((it) => /^\w+$/.test(it.text));
+  const others = new Set([...refused, ...machines].map((it) => it.text));
+  for (const { text } of items) others.delete(text);
+  return { items, others: [...others] };
 }
 
 let lastRead = {}; // the last text, and its words
@@ -360,7 +363,7 @@ function group(kind, index) {
 
 /** Makes the rows those of the lines, and keeps each row that is there. A later call ends an earlier one. */
 async function show() {
-  const run = ++runs, { items, unclear } = wordsOf(field.value), lines = items.map((item) => item.text),
+  const run = ++runs, { items, others } = wordsOf(field.value), lines = items.map((item) => item.text),
     progress = byId("progress"), begin = performance.now();
   const found = rowsFor(lines), first = new Map(),
     counts = { all: lines.length, refused: 0, suspicious: 0, other: 0, duplicate: 0, named: 0 };
@@ -412,21 +415,20 @@ async function show() {
     const whyNone = isLongLink()
       ? `The link isn't followed: its targets are longer than ${countOf(LONGEST_LINK)} characters. ` : "";
     say(whyNone + (/\w/.test(field.value)
-      ? "No word of this text is a target, or resembles one. Search finds targets by other words. Of a list, one a "
+      ? "No word of this text is clearly a target. Search finds targets by other words. Of a list, one a "
         + "line and without spaces, each is shown."
       : "No targets. Paste some above, or names of any tool: one a line, or any text that has some, such as a "
         + "workflow."));
   }
   byId("notice").textContent =
-    [...unread.map((it) => `A target of the link can't be read: ${shown(it)}.`), ...leftOut(unclear)].join(" ");
+    [...unread.map((it) => `A target of the link can't be read: ${shown(it)}.`), ...leftOut(others)].join(" ");
   byId("notice").hidden = byId("notice").textContent === "";
 }
 
-/** That words of a text may be targets, and aren't understood; of many, the first ones are shown. */
-function leftOut(unclear) {
-  const words = [...new Set(unclear.map((it) => shown(it.text)))], more = words.length > 5 ? ", .." : ".";
-  return words.length ? [`Not understood, and perhaps a target: ${words.slice(0, 5).join(", ")}${more}`] : [];
-}
+/** That words of a text may be targets, and aren't shown; of many, the first ones are named. */
+const leftOut = (words) => words.length
+  ? [`Not shown, since this isn't only a list, and perhaps targets (${countOf(words.length)}): `
+    + `${words.slice(0, 5).map(shown).join(", ")}${words.length > 5 ? ", .." : "."}`] : [];
 
 const chipOf = (kind) => byId("chips").querySelector(`[data-show=${kind}]`);
 const countOf = (count) => count.toLocaleString("en");

@@ -256,7 +256,8 @@ function dialectOf(value, argument = "dialect") {
   const name = stringOf(value, argument),
     index = DIALECTS.indexOf(Object.hasOwn(OTHER_NAMES, name) ? OTHER_NAMES[name] : name);
   const names = () => [...DIALECTS, ...Object.keys(OTHER_NAMES)];
-  if (index < 0) throw new TypeError(`there is no dialect ${name}${meant(name, names())}`);
+  if (index < 0)
+    throw new TypeError(`there is no dialect ${name}${meant(name, names()) || `: they are ${DIALECTS.join(", ")}`}`);
   return index + 1;
 }
 

@@ -252,7 +252,7 @@ const tests = {
       [TypeError, "there is no dialect deb; did you mean debian?", () => Triple.read("x", "deb")],
       [TypeError, "there is no dialect dotent; did you mean dotnet?", () => linux.nameIn("dotent")],
       [TypeError, "there is no dialect Docker; did you mean docker?", () => linux.nameIn("Docker")],
-      [TypeError, "there is no dialect podman", () => linux.nameIn("podman")],
+      [TypeError, `there is no dialect podman: they are ${DIALECTS.join(", ")}`, () => linux.nameIn("podman")],
       [TypeError, "there is no C library MUSL; did you mean musl?", () => linux.complete("MUSL"),
         () => translate("amd64", "debian", "go", "MUSL")],
       [TypeError, "there is no C library gnu; did you mean glibc or mingw?", () => linux.complete("gnu")],
@@ -396,16 +396,16 @@ const tests = {
     for (const [platform, system, machines] of [
       ["aix", "aix", "ppc ppc64"], ["android", "linux", "arm arm64 ia32 riscv64 x64"],
       ["darwin", "darwin", "arm64 ia32 x64"], ["freebsd", "freebsd", "arm arm64 ia32 ppc64 riscv64 x64"],
-      ["linux", "linux", "arm arm64 ia32 loong64 mips mipsel mips64el ppc ppc64 riscv64 s390 s390x x64"],
+      ["linux", "linux", "arm arm64 ia32 loong64 mips mipsel mips64el ppc ppc64 riscv64 s390 s390x x32 x64"],
       ["netbsd", "netbsd", "arm arm64 ia32 x64"], ["haiku", "haiku", "ia32 x64"], ["sunos", null, "ia32 x64"],
-      ["openbsd", "openbsd", "arm arm64 ia32 ppc64 riscv64 x64"], ["win32", "windows", "arm64 ia32 x64"],
+      ["openbsd", "openbsd", "arm arm64 ia32 ppc64 riscv64 x64"], ["win32", "windows", "arm arm64 ia32 x64"],
     ]) {
       for (const name of machines.split(" ").map((machine) => `${platform}-${machine}`)) {
         if (meanings(name).some((it) => it.dialect === "node" && it.reason)) without.push(name);
         else assert.equal(Triple.read(name, "node").operatingSystem, system, name);
       }
     }
-    assert.deepEqual(without, ["freebsd-ppc64", "linux-ppc", "linux-s390", "sunos-ia32", "sunos-x64"]);
+    assert.deepEqual(without, ["freebsd-ppc64", "linux-ppc", "linux-s390", "linux-x32", "sunos-ia32", "sunos-x64"]);
   },
   "strings of any length": () => {
     for (const size of [60, 64, 65, 128, 65535, 65536, 300000, 30000000]) {

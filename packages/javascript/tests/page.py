@@ -192,8 +192,13 @@ def takes_lists(page):
     typed(page, "target: x86_64-foo-bar", "1 target: 0 parsed, 1 refused")
     same(page.run(NOTICE), "")
     typed(page, "targets: x86_64-foo-bar, wasm32-wasi", "1 target: 1 parsed, 0 refused")
-    same(page.run(NOTICE), "Not understood, and perhaps a target: x86_64-foo-bar.")
-    typed(page, "raspberry pi", "No word of this text is a target, or resembles one. Search finds targets")
+    same(page.run(NOTICE), "Not shown, since this isn't only a list, and perhaps targets (1): x86_64-foo-bar.")
+    typed(page, "raspberry pi", "No word of this text is clearly a target. Search finds targets")
+    # names of a machine in a list with a line of prose, and as Go's, which a comment hasn't
+    typed(page, "amd64\narmhf\nand for now\nlinux/arm64 # i386", "1 target: 0 parsed, 1 named")
+    same(page.run(NOTICE), "Not shown, since this isn't only a list, and perhaps targets (2): amd64, armhf.")
+    typed(page, "goarch: [arm64]", "No word of this text is clearly a target.")
+    same(page.run(NOTICE), "Not shown, since this isn't only a list, and perhaps targets (1): arm64.")
 
 
 def refuses_and_suggests(page):
