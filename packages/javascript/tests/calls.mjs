@@ -389,6 +389,8 @@ const tests = {
         name);
     }
     assert.throws(() => hostOf(undefined, undefined), /Node/);
+    for (const [name, meant] of [["Linux_x86_64", "x86_64-unknown-linux"], ["macOS_arm_64", "aarch64-apple-darwin"],
+      ["Windows_x86_32", "i686-pc-windows"]]) assert.equal(`${meanings(name)[0].triple}`, meant); // by userAgentData
     assert.equal(host().facts().endianness, "little");
   },
   "what Node says of itself is a name, or has a reason": () => {

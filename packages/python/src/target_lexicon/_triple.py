@@ -7,7 +7,7 @@ import functools
 import operator
 from contextlib import suppress
 from struct import Struct
-from typing import TYPE_CHECKING, Any, Callable, Dict, Mapping, Optional, Sequence, Tuple, Type, Union, final
+from typing import Any, Callable, Dict, Mapping, Optional, Sequence, Tuple, Type, Union, final
 
 from . import _library, _names
 from ._dialects import NO_DIALECT, dialect_number, libc_number
@@ -17,9 +17,6 @@ from ._fields import CustomVendor, FieldValue
 from ._named import Immutable, NamedValue, shown
 from ._names import FIELDS, ChosenLibc, ChosenLibcName, Dialect, DialectName
 from ._values import Architecture, BinaryFormat, Environment, OperatingSystem, Vendor
-
-if TYPE_CHECKING:
-    from ._explain import Explanation
 
 #: Major, minor and patch.
 Version = Tuple[int, int, int]
@@ -400,12 +397,6 @@ class Triple(FactsOfTriple, Immutable):
     def __replace__(self, /, **fields: Any) -> Triple:
         """What `copy.replace` calls: the same as `replace`."""
         return self.replace(**fields)
-
-    def explain(self) -> Explanation:
-        """From which part of the printed string each field comes. `target_lexicon.explain` explains any string."""
-        from ._explain import explain
-
-        return explain(str(self))
 
     def _changed(self, call: Callable[..., int], *arguments: int) -> Triple:
         """What a call makes of the triple."""
