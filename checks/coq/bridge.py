@@ -207,4 +207,8 @@ def write(root, folder, translated=None):
         if it and not title.endswith("_pure") and title not in proved and it.key[0] not in DERIVED:
             raise Untranslated(f"it is no function of the source, and no order of Orders.v (in {compiled.path(it)})")
     others = re.findall(r"^Theorem (\w+)", others, re.M)
-    return dict.fromkeys([*(f"mir_{it}" for it in (*theorems, "versions_in_range")), *derived.SAID, *others])
+    proved = dict.fromkeys([*(f"mir_{it}" for it in (*theorems, "versions_in_range")), *derived.SAID, *others])
+    listed = {it for _, _, it in shipped.listed() if " " not in it}
+    if gone := sorted(listed - {*theorems, *proved}):
+        raise Untranslated(f"calls.txt lists {gone[0]}, which is no theorem")
+    return proved

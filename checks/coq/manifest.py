@@ -18,7 +18,7 @@ def check_manifest(root):
         if it.exists():
             raise Untranslated(f"{it} has settings of cargo")
     for name, expected in READ.items():
-        text = root.joinpath("packages/rust", name).read_text(encoding="utf-8")
+        text = root.joinpath("packages/rust", name).read_bytes().decode()
         if name == "Cargo.toml":
             lines = "".join(re.findall(r"^[^#\n].*\n?", text, re.M))
             package, *others = re.split(r"^(?=\[package\.)", lines, flags=re.M)

@@ -297,7 +297,7 @@ class Body:
         is_borrow = isinstance(values[0], Mut)
         if path == "<[u8] as std::ops::IndexMut<std::ops::Range<usize>>>::index_mut" and is_borrow:
             low, high = map(self.code, self.parts(values[1], types[1]).args)
-            self.emit(f"between {self.code(self.read(values[0], env))} {low} {high}")
+            self.emit(f"part_between {self.code(self.read(values[0], env))} {low} {high}")
             return Mut(values[0].cell, (*values[0].path, ("slice", low, high)))
         if path == "std::slice::<impl [u8]>::copy_from_slice" and is_borrow and values[0].path[-1:][0][0] == "slice":
             self.store(*values[0], self.code(values[1]), env)

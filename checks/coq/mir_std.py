@@ -51,8 +51,8 @@ STD = patterns({
     "<str as std::ops::Index<std::ops::RangeTo<usize>>>::index": "? str_between {0} 0 {1}",
     "<str as std::ops::Index<std::ops::RangeFrom<usize>>>::index": "? str_between {0} {1} (length {0})",
     "<str as std::ops::Index<std::ops::Range<usize>>>::index": "? str_between {0} (fst {1}) (snd {1})",
-    "<[u8*] as std::ops::Index<std::ops::RangeTo<usize>>>::index": "? between {0} 0 {1}",
-    "<[u8*] as std::ops::Index<std::ops::RangeFrom<usize>>>::index": "? between {0} {1} (length {0})",
+    "<[u8*] as std::ops::Index<std::ops::RangeTo<usize>>>::index": "? part_between {0} 0 {1}",
+    "<[u8*] as std::ops::Index<std::ops::RangeFrom<usize>>>::index": "? part_between {0} {1} (length {0})",
     **{f"<{it} as std::cmp::PartialOrd>::partial_cmp": "(Some (N.compare {0} {1}))" for it in ("u8", "u16")},
     **{f"std::slice::<impl [u8]>::{it}_chunk::<{n}>": f"({it}_chunk {n} {{0}})"
        for it in ("first", "last") for n in (4, 8)},

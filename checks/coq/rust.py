@@ -377,7 +377,8 @@ class Body:
         def ranged(found):
             (code, type), codes = found[0], [c for c, _ in found[1:]]
             low, high = codes[0] if start else "0", codes[-1] if end else f"(length {code})"
-            return self.bind(f"{'str_between' if type == STR else 'between'} {code} {low} {high}", new, k(new, type))
+            of = "str" if type == STR else "part"
+            return self.bind(f"{of}_between {code} {low} {high}", new, k(new, type))
         return self.all([self.base(it[1]), *[x for x in (start, end) if x]], env, ranged)
 
     def ex_cast(self, it, env, k):

@@ -234,18 +234,19 @@ def coq_lists(table):
     each = lambda form: [form.format(type=f"{it.variant}Architecture", word=it.word, variant=it.variant)
                          for it in table.families]
 
-    def theorem(kind, name, form):
+    def theorem(kind, name, form, of=""):
         first, *others = each(form)
-        *lines, last = [f"{kind} {name} :", f"  {first}", *(f"  ∧ {it}" for it in others)]
+        *lines, last = [f"{kind} {name} :{of}", f"  {first}", *(f"  ∧ {it}" for it in others)]
         return [*lines, f"{last}."]
 
     found = "rs_{type}_{call} text = ok_or (sub_architecture_of as_{word} text) tt"
     return {
         "the names of families in Coq": theorem("Theorem", "sub_architecture_names",
                                                 "(∀ x, rs_{type}_name x = {word}_name x)"),
-        "families by their names": theorem("Lemma", "sub_architectures_found", found.replace("{call}", "from_str")),
+        "families by their names": theorem("Lemma", "sub_architectures_found", found.replace("{call}", "from_str"),
+                                           " ∀ text,"),
         "families from strings": theorem("Theorem", "sub_architectures_from_str",
-                                         found.replace("{call}", "FromStr_from_str")),
+                                         found.replace("{call}", "FromStr_from_str"), " ∀ text,"),
         "families displayed": theorem("Theorem", "sub_architectures_displayed",
                                       "(∀ x f, rs_{type}_fmt x f = write_str f ({word}_name x))"),
         "equality of families in Coq": [
