@@ -73,7 +73,7 @@ OWN_WORDS = {"linux ppc64 of node": "powerpc64le", "windows/arm of go": "armv7",
              "32 of conda": "i686", "i386 of rpm": "i386",
              "linux i386 of uname": "i386", "freebsd riscv of uname": "riscv64", "mingw32_nt x86_64 of uname": "i686",
              "linuxmusl ppc64 of node": "powerpc64le", "x86 of apk": "i586",
-             **{f"{name} of node": "armv7" for name in ("android-arm-eabi", "linux-arm-gnueabihf",
+             **{f"{name} of node": "armv7" for name in ("win32-arm", "android-arm-eabi", "linux-arm-gnueabihf",
                                                         "linux-arm-musleabihf", "linux-arm-glibc", "linux-arm-musl",
                                                         "linux-musl-arm", "linuxmusl-arm", "openharmony-arm")}}
 # Names of packages that aren't in dpkg's table: those of Termux, Ubuntu and iOS, and wildcards.
