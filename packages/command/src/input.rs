@@ -118,7 +118,8 @@ fn each_of_path(path: &Path, answers: &mut impl Answers) -> Result<(), Fault> {
 /// The bytes of a file, unless one of them is zero: then it is no text, and isn't read further. In UTF-16 it is refused.
 fn text_of(path: &Path, file: &str) -> Result<Option<Vec<u8>>, Fault> {
     let fault = |why| Fault::Stream { name: file.into(), why };
-    if !fs::metadata(path).map_err(fault)?.is_file() {
+    let is_open = path.starts_with("/dev/fd") || path == Path::new("/dev/stdin");
+    if !is_open && !fs::metadata(path).map_err(fault)?.is_file() {
         let why = "is neither a file nor a folder; `-f` reads its lines";
         return Err(fault(io::Error::new(ErrorKind::Other, why)));
     }

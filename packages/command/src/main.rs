@@ -22,7 +22,7 @@ use clap::error::ErrorKind;
 use clap::ArgMatches;
 use fault::Fault;
 use output::write_only;
-use std::process;
+use std::{env, process};
 
 /// Runs what the arguments say. Returns the status.
 fn run(arguments: &ArgMatches) -> Result<i32, Fault> {
@@ -42,7 +42,9 @@ fn run(arguments: &ArgMatches) -> Result<i32, Fault> {
 }
 
 fn main() {
-    let ended = match arguments::command().try_get_matches() {
+    let is_help = env::args_os().nth(1).map_or(false, |it| it == "help");
+    let words = env::args_os().filter(|it| !is_help || it != "--help" && it != "-h");
+    let ended = match arguments::command().try_get_matches_from(words) {
         Ok(arguments) => run(&arguments),
         Err(error) => usage::show(&error),
     };

@@ -119,11 +119,10 @@ impl Reader {
                 Ok(Meant::NoTriple(None))
             }
             Verdict::Unknown(meant) => Err(Refusal::unknown_to_all(text, meant)),
+            Verdict::Right(triple) if is_of_several(text, triple) => {
+                Ok(Meant::NoTriple(Some(Refusal::of_all("tools mean different targets by", text))))
+            }
             Verdict::Right(triple) if TripleRef::from_str(text) != Ok(triple) => {
-                // Each tool means its own system by the name of a machine, such as `amd64`.
-                if !text.contains('-') && !Evidence::of(text).has_system() {
-                    return Ok(Meant::NoTriple(self.parse(text).err()));
-                }
                 let mut meant = meanings(text).filter_map(|it| it.sense.ok());
                 let warning = meant.find(|it| it.triple == triple).and_then(|it| lost_level(text, it.level));
                 Ok(Meant::Triple(self.completed(triple), warning))
@@ -173,6 +172,15 @@ impl Reader {
     pub fn needless_libc(&self) -> Option<ChosenLibc> {
         self.libc.filter(|_| !self.needs_libc.get())
     }
+}
+
+/// Whether tools mean their own system, or another machine, by the name of a machine, such as `amd64` or `armv8`.
+fn is_of_several(text: &str, triple: TripleRef<'_>) -> bool {
+    use OperatingSystem::{None_, Unknown};
+    let evidence = Evidence::of(text);
+    let mut meant = meanings(text).filter_map(|it| Some(it.sense.ok()?.triple.operating_system));
+    let is_own = TripleRef::from_str(text) == Ok(triple) && !evidence.is_any_arm();
+    !text.contains('-') && !evidence.has_system() && (!is_own || meant.any(|it| !matches!(it, None_ | Unknown)))
 }
 
 fn lost_level<'a>(text: &'a str, level: &str) -> Option<Refusal<'a>> {

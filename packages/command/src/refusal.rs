@@ -45,7 +45,7 @@ impl<'a> Refusal<'a> {
         Refusal { is_warning: false, error: error.into(), field: None, part, names: Names::No, reason: None }
     }
 
-    fn of_all(error: impl Into<String>, text: &'a str) -> Self {
+    pub fn of_all(error: impl Into<String>, text: &'a str) -> Self {
         Refusal::new(error, TextPart { text, start: 0 })
     }
 

@@ -152,7 +152,7 @@ impl<'a> Run<'a> {
         let has_text = arguments.get_many::<OsString>("target").unwrap_or_default().any(|it| it != "-");
         let Progress { targets, phrases, .. } = self.progress;
         let none = if has_text { "no targets found; `-f FILE` takes each line as one" } else { "no targets read" };
-        let lines = "each line of standard input or `-f` is a target; without `-f` those in a file are found";
+        let lines = "each line of standard input or `-f` is a target; in other files, or /dev/stdin, they are found";
         let is_text = (arguments.contains_id("file") || !has_text) && 2 * phrases > targets;
         self.note(if targets == 0 { Some(none) } else { is_text.then_some(lines) })?;
         self.summarize(false)?;

@@ -66,6 +66,7 @@ A word that people try has the right one, and the subcommands follow; nothing is
 
   $ target-lexicon --version | grep -xc "target-lexicon $(sed -n 's/^version = "\(.*\)"/\1/p' "$TESTDIR/../Cargo.toml")"
   1
+  $ cmp <(target-lexicon help --help) <(target-lexicon help)
   $ target-lexicon --manual | sed 's/\\-/-/g' > manual
   $ for shell in bash zsh fish elvish powershell; do target-lexicon completions $shell > $shell; done
   $ calls=$(target-lexicon --help | sed -n '/^Commands:/,/^$/s/^  \([a-z]*\) .*/\1/p' | grep -vx help); echo $calls

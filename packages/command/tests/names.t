@@ -130,8 +130,7 @@ The names of each dialect are listed, and are read:
   >   command target-lexicon names $dialect | tr '\n' '\0' | target-lexicon check -0 --from $dialect; echo $dialect
   > done | paste -sd' '
   debian go oci docker node npm gnu python rust uname rpm apk pacman dotnet conda zig nix
-  $ target-lexicon names docker | grep -x linux/arm64
-  linux/arm64
+  $ target-lexicon names docker --json | jq -r '.oci[]' | cmp - <(command target-lexicon names docker)
   $ target-lexicon names | sed -n '/^vendor/,/^op/p' | head -n 3
   vendor
     unknown
@@ -190,8 +189,9 @@ A version is one or two numbers, of a C library or a system by its name; one of 
   android_21_arm64_v8a
   freebsd_14_1_RELEASE_amd64
   win32
-  $ python --glibc 2.17 --glibc 2.28 avr | head -n 1
+  $ for it in 2.17' --glibc 2.28' '2.17 --to go'; do python --glibc $it avr | head -n 1; done
   ! error: `--glibc 2.17` and `--glibc 2.28` can't be used together
+  ! error: `--to python` and `--to go` can't be used together
   $ python --macos 11 --musl 1.2 x86_64-unknown-linux-gnu
   linux_x86_64
   $ python --glibc 2.17 x86_64-unknown-freebsd aarch64-apple-ios | grep -c 'the name states a version'
@@ -366,7 +366,7 @@ Of names that no tool has:
 Names that no tool has, and what their words say:
 
   $ cat > words << 'END'
-  > macosArm64
+  > armv8
   > alpine-linux-x64
   > FreeBSD:14:amd64
   > foo_linux_amd64v3.zip
@@ -383,8 +383,9 @@ Names that no tool has, and what their words say:
   > dotnet-sdk-8.0-linux-x64-foo
   > END
   $ target-lexicon what -f words | grep -v '^    '
-  macosArm64
-    is aarch64-apple-darwin, by its words
+  armv8
+    is armv8-unknown-none-elf, as gnu
+    is known in part: it names an Arm of 32 or of 64 bits, and no system
   alpine-linux-x64
     is x86_64-unknown-linux-musl, by its words
   FreeBSD:14:amd64

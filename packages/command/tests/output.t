@@ -31,6 +31,8 @@ A system that is written with its whole version is given as it is:
 
   $ target-lexicon explain aarch64-apple-ios17.0.0 | grep system
     operating_system  ios 17.0.0  given as `ios17.0.0`
+  $ target-lexicon explain x86_64-linux-gnux32 | grep note
+    note              `gnux32` says that pointers have 32 bits
 
 A fact without an answer says why:
 
@@ -57,10 +59,8 @@ It has the names that facts have elsewhere:
   $ target-lexicon facts --json arm64-apple-ios17 > facts.json; cat facts.json
   [{"target":"arm64-apple-ios17","file":null,"line":null,"architecture":"aarch64","vendor":"apple","operating_system":"ios","version":"17.0.0","environment":"unknown","binary_format":"macho","endianness":"little","pointer_width":64,"default_calling_convention":"AppleAarch64","data_model":"LP64","short_size":2,"int_size":4,"long_size":8,"long_long_size":8,"float_size":4,"double_size":8,"implied_format":"macho","object_format":"macho","family":"aarch64","is_thumb":false,"is_like_darwin":true,"has_custom_vendor":false,"c_library":"system","float_abi":null,"is_unix":true,"long_double_size":8,"long_double_alignment":8,"wchar_size":4,"wchar_alignment":4,"arm_version":null,"arm_profile":null,"char_signedness":"signed","has_emulated_tls":false,"has_comdat":false,"llvm_target":"arm64-apple-ios17.0.0","multiarch_tuple":null,"printed":"aarch64-apple-ios17.0.0","canonical":"aarch64-apple-ios17.0.0"}]
   $ cmp <(jq -r '.[] | del(.target, .file, .line) | keys_unsorted[]' facts.json) <(target-lexicon facts arm64-apple-ios17 | awk 'NR > 1 { print $1 }')
-  $ target-lexicon facts --json avr-none | jq -c '.[] | .float_abi, .data_model, .binary_format'
-  null
-  null
-  "unknown"
+  $ target-lexicon facts --json avr-none | jq -c '.[] | [.float_abi, .data_model, .binary_format]'
+  [null,null,"unknown"]
   $ target-lexicon explain --json arm64-apple-ios17
   [{"target":"arm64-apple-ios17","file":null,"line":null,"architecture":{"value":"aarch64","origin":"alias","part":"arm64"},"vendor":{"value":"apple","origin":"given","part":"apple"},"operating_system":{"value":"ios","origin":"alias","part":"ios17"},"version":"17.0.0","environment":{"value":"unknown","origin":"not given","part":null},"binary_format":{"value":"macho","origin":"implied","part":null},"has_custom_vendor":false,"suggestion":null}]
 
@@ -79,8 +79,6 @@ It is an array, or lines:
   [1,"z80-unknown-unknown-elf"]
   [2,null]
   [3,"x86_64-unknown-linux"]
-  $ command target-lexicon check --json-lines -f lines 2> /dev/null | jq -c .part
-  "foo"
   $ target-lexicon facts --json --json-lines z80 > /dev/null
   [2]
 
@@ -118,9 +116,6 @@ A warning is a member of the object:
 
 Some facts of each target:
 
-  $ target-lexicon facts --get pointer_width x86_64-linux avr
-  64
-  16
   $ target-lexicon facts --get version,c_library,is_unix avr x86_64-linux-gnu
   \t\tfalse (esc)
   \tglibc\ttrue (esc)
@@ -139,9 +134,8 @@ Some facts of each target:
   z80-unknown-unknown-elf\tz80\t1\ttargets:2 (esc)
   $ target-lexicon matrix --json --ignore-vendor -f targets
   [{"canonical":"x86_64-unknown-linux","target":"x86_64-linux","count":3,"from":[{"target":"x86_64-linux","file":"targets","line":1}]},{"canonical":"z80-unknown-unknown-elf","target":"z80","count":1,"from":[{"target":"z80","file":"targets","line":2}]}]
-  $ target-lexicon matrix --json --places --ignore-vendor -f targets | jq -c '.[0] | .canonical, (.from | map(.line))'
-  "x86_64-unknown-linux"
-  [1,3,4]
+  $ target-lexicon matrix --json --places --ignore-vendor -f targets | jq -c '.[0] | [.canonical, (.from | map(.line))]'
+  ["x86_64-unknown-linux",[1,3,4]]
   $ target-lexicon settle --ignore-vendor z80 > /dev/null
   [2]
 

@@ -105,21 +105,12 @@ An argument that is the path of a file is a text, in which targets are found. A 
   >       - with: { platforms: "linux/amd64,linux/amd46" }
   > END
   $ printf '\xef\xbb\xbf# \xe9\r\n[toolchain]\r\ntargets = ["wasm32-wasip1", "x86_64-linux-gnuu"]\r\n' > rust-toolchain.toml
-  $ target-lexicon check .github/workflows/*.yml rust-toolchain.toml
+  $ target-lexicon check .github/workflows/*.yml rust-toolchain.toml | grep -v '^!  '
   ! .github/workflows/release.yml:7:31: error: custom vendor `aple`
-  !   aarch64-aple-darwin
-  !           ^^^^ did you mean `apple`?
   ! .github/workflows/release.yml:8:41: error: unrecognized environment `mscv`
-  !   x86_64-pc-windows-mscv
-  !                     ^^^^ did you mean `msvc`?
   ! .github/workflows/release.yml:11:41: error: no tool has the name `linux/amd46`
-  !   linux/amd46
-  !   ^^^^^^^^^^^ did you mean `linux/amd64`?
   ! rust-toolchain.toml:3:43: error: unrecognized environment `gnuu`
-  !   x86_64-linux-gnuu
-  !                ^^^^ did you mean `gnu`?
   ! 4 of 7 targets refused
-  [1]
   $ target-lexicon check --format github .github/workflows/*.yml rust-toolchain.toml foo
   ::error file=.github/workflows/release.yml,line=7,col=31,endColumn=35::custom vendor `aple` of `aarch64-aple-darwin`: did you mean `apple`?
   ::error file=.github/workflows/release.yml,line=8,col=41,endColumn=45::unrecognized environment `mscv` of `x86_64-pc-windows-mscv`: did you mean `msvc`?
@@ -136,7 +127,7 @@ An argument that is the path of a file is a text, in which targets are found. A 
   {"target":"wasm32-wasip1","file":"rust-toolchain.toml","line":3,"canon
   wasm32-wasip1
   $ for it in '-f rust-toolchain.toml' -; do target-lexicon check $it < rust-toolchain.toml | grep '^! note: '; done | uniq
-  ! note: each line of standard input or `-f` is a target; without `-f` those in a file are found
+  ! note: each line of standard input or `-f` is a target; in other files, or /dev/stdin, they are found
   $ target-lexicon check --from rust rust-toolchain.toml | head -n 1
   ! rust-toolchain.toml:3:30: error: unknown name of rust `x86_64-linux-gnuu`
   $ for it in nowhere.yml '--from rust nowhere.yml' .github/nowhere /nowhere/it; do target-lexicon check $it | tail -n 1; done | uniq
@@ -206,31 +197,24 @@ An unknown environment after a machine and a system is wrong, and so is what is 
   > device("avr-watchdog", riscv32e_unknown_none_elf), arm64-windows-abi-conventions, x86_64-unknown-haiku-g++
   > "-mcpu=rios2"; target = x23; cpu=arm9; os=unos; "a/csky-linux-gnu/libc"
   > END
-  $ target-lexicon check words.yml | grep -v '^!   '
-  ! words.yml:1:28: error: unrecognized environment `gnueabhif`
-  ! words.yml:1:60: error: unrecognized environment `foo`
-  ! words.yml:1:72: error: custom vendor `windwos`
-  ! words.yml:1:85: error: no tool has the name `x86_64-pcc-cygwin`
-  ! words.yml:3:12: error: no tool has the name `linux/aarch46`
-  ! words.yml:3:44: error: no tool has the name `linux/am6d4`
-  ! 6 of 10 targets refused
-  $ target-lexicon check words.yml | grep -m 1 -o 'mean `gnue.*'
-  mean `gnueabihf`?
-  $ target-lexicon check more.yml | grep -v '^!   '
-  ! more.yml:1:12: error: no tool has the name `macsx_11_0_arm64`
-  ! more.yml:2:8: error: no tool has the name `amd46`
-  ! more.yml:4:14: error: custom vendor `linu`
-  ! more.yml:4:89: error: custom vendor `inux`
-  ! more.yml:6:23: error: no tool has the name `Lnux`
-  ! more.yml:9:13: error: no tool has the name `linux/arn64`
-  ! more.yml:9:26: error: no tool has the name `linux-arn64`
-  ! more.yml:10:7: error: no tool has the name `arn64`
-  ! note: 1 word that may be a target isn't understood: --strict shows each
-  ! 8 of 10 targets refused
-  $ target-lexicon check more.yml 2>&1 | grep -o 'mean `.*arm64`'
-  mean `linux/arm64`
-  mean `linux-arm64`
-  mean `arm64`
+  $ found() { command target-lexicon check --json "$1" 2> said | jq -r '.[] | "\(.line) \(.target): \(.suggestion // "-")"'; sed -n "/^note:/p" said; }
+  $ found words.yml
+  1 arm-unknown-linux-gnueabhif: gnueabihf
+  1 x86_64-unknown-linux-foo: -
+  1 x86_64-windwos-gnu: windows
+  1 x86_64-pcc-cygwin: -
+  3 linux/aarch46: -
+  3 linux/am6d4: linux/amd64
+  $ found more.yml
+  1 macsx_11_0_arm64: macosx_11_0_arm64
+  2 amd46: amd64
+  4 aarch64-linu-gnu: linux
+  4 i686-inux: linux
+  6 Lnux: linux
+  9 linux/arn64: linux/arm64
+  9 linux-arn64: linux-arm64
+  10 arn64: arm64
+  note: 1 word that may be a target isn't understood: --strict shows each
 
 A sign, two letters or a dash of a word processor may be wrong in the name of a program or of a file, too. A letter of one's own before a name, calls, and words of other tools aren't wrong:
 
@@ -241,18 +225,27 @@ A sign, two letters or a dash of a word processor may be wrong in the name of a 
   > run: armv7a-linux-androidabi24
   > int arch64 = ARCH64 (); cpu=xx86_64; eelf64_sparc, linux/mips64x, x86_64-cc, ppc64be/le-linux, i386-pc-mswin32
   > powerpc-unknown-eabisim 09_mips-linux-libc-dev x86_64-linux-thread-multi-ld wasm64-emscripten-node-debug
+  > CARGO_TARGET_X86_64_UNKOWN_LINUX_GNU_LINKER="$T/cargo-binstall-x86_64-unkown-linux-musl.gz" CC_i686_linux_andriod=
+  > rust-analyzer-x86_64-unknown-linux-gnu.gz foo-x86_64-apple-darwin.deb $V-x86_64-pc-windwos-gnu.zip x_1_amr64.deb
+  > ifeq ($(ARCH),amrhf) --arch amr64 "target": "wasm32-wasip1x"
   > END
-  $ target-lexicon check files.yml | grep -v '^!   '
-  ! files.yml:1:13: error: no tool has the name `win-46`
-  ! files.yml:1:21: error: no tool has the name `darwin_am64`
-  ! files.yml:1:35: error: no tool has the name `linux/ppcle64`
-  ! files.yml:2:6: error: no tool has the name `x86_64_w64-mingw32`
-  ! files.yml:2:33: error: no tool has the name `gxx_linux-aarch46`
-  ! files.yml:2:79: error: unrecognized environment `mussl`
-  ! files.yml:2:110: error: unrecognized binary format `hf`
-  ! files.yml:3:9: error: unrecognized architecture `x86_64\u{2013}unknown`
-  ! note: 1 word that may be a target isn't understood: --strict shows each
-  ! 8 of 9 targets refused
+  $ found files.yml
+  1 win-46: win-64
+  1 darwin_am64: -
+  1 linux/ppcle64: -
+  2 x86_64_w64-mingw32: -
+  2 gxx_linux-aarch46: -
+  2 i686-unknown-linux-mussl: musl
+  2 arm-linux-gnueabi-hf: -
+  3 x86_64\xe2\x80\x93unknown-linux-gnu: - (esc)
+  7 X86_64_UNKOWN_LINUX_GNU: x86_64-unknown-linux-gnu
+  7 x86_64-unkown-linux-musl: unknown
+  7 i686_linux_andriod: i686_linux_android
+  8 x86_64-pc-windwos-gnu: windows
+  8 amr64: -
+  9 amrhf: armhf
+  9 amr64: -
+  note: 2 words that may be targets aren't understood: --strict shows each
   $ echo 'triplets: [x64-windows-static, arm64-osx]' > triplets; target-lexicon check --strict triplets
 
 Of a folder the files are read, except links and what tools make. A list is what has targets in half of its lines:
@@ -285,13 +278,13 @@ Of a folder the files are read, except links and what tools make. A list is what
   ! 6 of 10 targets refused
   $ printf 'platform: linux/amd64\n' > one.yml; target-lexicon matrix one.yml | cut -f 1,2
   x86_64-unknown-linux\tlinux/amd64 (esc)
-  $ echo 'arch: [avr, x64, x86, armhf, win32, linux_amd64]' > arch.yml; target-lexicon check arch.yml
+  $ echo 'arch: [avr, x64, arm64, armv8, win32, linux_amd64]' > arch.yml; target-lexicon check /dev/stdin < <(cat arch.yml)
   $ target-lexicon settle arch.yml | grep -v '^!  '
   avr-unknown-unknown
   x86_64-unknown-linux
-  ! arch.yml:1:13: error: unrecognized architecture `x64`
-  ! arch.yml:1:18: error: unrecognized architecture `x86`
-  ! arch.yml:1:23: error: unrecognized architecture `armhf`
+  ! arch.yml:1:13: error: tools mean different targets by `x64`
+  ! arch.yml:1:18: error: tools mean different targets by `arm64`
+  ! arch.yml:1:25: error: tools mean different targets by `armv8`
   ! 3 of 5 targets refused
 
 ## Comments
@@ -420,18 +413,12 @@ It has only a status, and the first target that is refused ends it:
 
 One that resembles a name is a warning of three calls, and refused if that is asked, except rustc's and those that are meant:
 
-  $ for call in explain facts settle check matrix cfg; do echo "$call: $(target-lexicon $call x86_64-linx | grep '^!')"; done
+  $ for call in explain facts settle check matrix cfg; do echo "$call: $(target-lexicon $call x86_64-linx | grep '^! ..*:')"; done
   explain: 
   facts: 
   settle: ! warning: custom vendor `linx`
-  !   x86_64-linx
-  !          ^^^^ did you mean `linux`?
   check: ! error: custom vendor `linx`
-  !   x86_64-linx
-  !          ^^^^ did you mean `linux`?
   matrix: ! warning: custom vendor `linx`
-  !   x86_64-linx
-  !          ^^^^ did you mean `linux`?
   cfg: 
   $ for call in explain facts settle check matrix cfg; do target-lexicon $call x86_64-linx --strict; done | sort | uniq -c
         6 !          ^^^^ did you mean `linux`?

@@ -22,7 +22,7 @@ use crate::suggestions::{
 };
 use crate::table::{OTHER_WORDS, WORDS};
 use crate::{Dialect, FloatAbi};
-use core::fmt::{self, Write};
+use core::fmt;
 use core::ops::Range;
 use core::str::FromStr as _;
 use target_lexicon::{
@@ -354,6 +354,12 @@ impl<'a> Evidence<'a> {
         self.system != Said::Unsaid
     }
 
+    /// Whether words say an Arm that may have 32 bits or 64, as `armv8` does, which is AArch64 in Conan.
+    #[must_use]
+    pub fn is_any_arm(&self) -> bool {
+        self.is_any_arm && self.machine() == Said::Unsaid
+    }
+
     /// Whether no word says anything of a target.
     pub(crate) fn is_silent(&self) -> bool {
         self.is_empty() && self.library == Said::Unsaid && self.floats == Said::Unsaid && self.form == Said::Unsaid
@@ -382,8 +388,8 @@ impl<'a> Evidence<'a> {
             Said::One(it) if it == arm && is_of_alpine("armel") => {
                 Said::One(Architecture::Arm(ArmArchitecture::Armv5te))
             }
-            // Alpine's `x86` is the i586.
-            Said::One(Architecture::X86_32(_)) if is_of_alpine("x86") => {
+            // Alpine's is the i586.
+            Said::One(Architecture::X86_32(_)) if self.is_of_alpine && !self.text.contains("i686") => {
                 Said::One(Architecture::X86_32(X86_32Architecture::I586))
             }
             said => said,
@@ -544,6 +550,11 @@ impl<'a> Evidence<'a> {
         let library = said_by(triple.environment).map_or("", |it| it.0);
         self.library.allows(library)
     }
+
+    /// Whether the words say no Android, or another system on Linux, that a triple hasn't.
+    pub(crate) fn allows_form(&self, triple: &TripleRef<'_>) -> bool {
+        self.form.allows(said_by(triple.environment).map_or("", |it| it.1))
+    }
 }
 
 /// A word for these says no level, and the machine may have any.
@@ -689,10 +700,7 @@ impl Iterator for Words<'_> {
 
 /// What a word of a text says.
 fn said_in(text: &str, word: &Word) -> Option<&'static str> {
-    let mut lower = Buffer::<LONGEST>::new();
-    lower.write_str(text.get(word.clone())?).ok()?;
-    lower.make_lowercase();
-    said(lower.as_str())
+    said(Buffer::<LONGEST>::of_lower(&[text.get(word.clone())?])?.as_str())
 }
 
 /// The most bytes of a word that is understood.
@@ -746,12 +754,8 @@ pub(crate) fn says_nothing(word: &str) -> bool {
 
 /// The machine of a text that is only a word for one, and not an Arm of 32 bits.
 pub(crate) fn only_machine(text: &str) -> Option<Architecture> {
-    let mut lower = Buffer::<LONGEST>::new();
-    let mut words = text.split('-');
-    lower.write_str(words.next()?).ok()?;
-    words.try_for_each(|it| write!(lower, "_{it}")).ok()?;
-    lower.make_lowercase();
-    let machine = said(lower.as_str())?.parse().ok()?;
+    let lower = text.chars().map(|it| if it == '-' { '_' } else { it.to_ascii_lowercase() });
+    let machine = said(Buffer::<LONGEST>::of_chars(lower)?.as_str())?.parse().ok()?;
     (!matches!(machine, Architecture::Arm(_) | Architecture::Unknown)).then_some(machine)
 }
 
@@ -785,9 +789,7 @@ fn said_by_pair(text: &str, first: &Word, second: &Word) -> Option<&'static str>
     let is_end = is_version || ["el", "le", "eb", "be", "a", "r", "m"].contains(&next);
     let signs: &[&str] = if is_end || first.end == second.start { &["_", ""] } else { &["_"] };
     signs.iter().find_map(|sign| {
-        let mut both = Buffer::<LONGEST>::new();
-        write!(both, "{}{sign}{next}", &text[first.clone()]).ok()?;
-        both.make_lowercase();
+        let both = Buffer::<LONGEST>::of_lower(&[&text[first.clone()], *sign, next])?;
         let said = said(both.as_str())?;
         let kind = kind_of(said.split(' ').next()?);
         let is_system = || *sign == "_" && kind == Kind::System && system_named(both.as_str()).is_none();
@@ -799,9 +801,8 @@ fn said_by_pair(text: &str, first: &Word, second: &Word) -> Option<&'static str>
 /// within it, as in `mipsle64`.
 pub(crate) fn order_of(word: &str) -> Option<Endianness> {
     let is_machine = |letters: &str, at: usize| {
-        let mut rest = Buffer::<LONGEST>::new();
-        let is_written = write!(rest, "{}{}", &word[..at], &word[at + letters.len()..]);
-        is_written.is_ok() && machine_named(rest.as_str()).is_some()
+        let rest = Buffer::<LONGEST>::of(&[&word[..at], &word[at + letters.len()..]]);
+        rest.map_or(false, |it| machine_named(it.as_str()).is_some())
     };
     let has = |letters: &str| word.match_indices(letters).any(|(at, _)| is_machine(letters, at));
     let of = |letters: [&str; 2]| letters.into_iter().any(has);

@@ -214,12 +214,8 @@ pub(super) fn row_of_platform(rows: &'static [Row], name: &str) -> Option<&'stat
     let mut variants = VARIANTS.iter();
     let other = variants.find(|it| is(it.0, machine) && is(it.1, variant));
     let variant = other.map_or(variant, |it| it.2);
-    let mut normal = Buffer::<40>::new();
-    match (machine, variant) {
-        ("", "") => normal.write_str(system).ok()?,
-        _ => write!(normal, "{system}/{machine}{variant}").ok()?,
-    }
-    let normal = normal.as_str();
-    let mut named = rows.iter().filter(|row| is(row.0, normal));
+    let sign = if (machine, variant) == ("", "") { "" } else { "/" };
+    let normal = Buffer::<40>::of(&[system, sign, machine, variant])?;
+    let mut named = rows.iter().filter(|row| is(row.0, normal.as_str()));
     named.find(|row| !row.0.contains('*'))
 }

@@ -324,9 +324,8 @@ const SIGNS: [char; 5] = ['/', '_', ' ', '.', '-'];
 
 /// A name with a dash for each separator, or nothing if it is longer than any that is near.
 fn joined(name: &str) -> Buffer<64> {
-    let mut joined = Buffer::new();
-    let is_written = name.chars().try_for_each(|it| joined.write_char(if SIGNS.contains(&it) { '-' } else { it }));
-    is_written.map_or(Buffer::new(), |()| joined)
+    let chars = name.chars().map(|it| if SIGNS.contains(&it) { '-' } else { it });
+    Buffer::of_chars(chars).unwrap_or_else(Buffer::new)
 }
 
 /// The lengths of names that may be near: all others are farther than a misspelling.
@@ -561,9 +560,6 @@ pub(crate) fn is_dash(it: char) -> bool {
 
 /// Whether a string has the dashes or quotes of a word processor, and is so with those of ASCII.
 pub(crate) fn is_typeset(text: &str, is: impl FnOnce(&str) -> bool) -> bool {
-    let mut spelled = Buffer::<LONGEST_PATH>::new();
-    !text.is_ascii()
-        && plain(text).try_for_each(|it| spelled.write_char(it)).is_ok()
-        && spelled.as_str().bytes().all(|it| it == b' ' || it.is_ascii_graphic())
-        && is(spelled.as_str())
+    let may_be = |it: &str| it.bytes().all(|it| it == b' ' || it.is_ascii_graphic()) && is(it);
+    !text.is_ascii() && Buffer::<LONGEST_PATH>::of_chars(plain(text)).map_or(false, |it| may_be(it.as_str()))
 }

@@ -84,7 +84,11 @@ impl Dialect {
             Dialect::Pacman => text.split_once(".pkg.tar")?.0,
             Dialect::Dotnet if !text.starts_with("dotnet-") && !text.starts_with("aspnetcore-") => return None,
             Dialect::Dotnet | Dialect::Go | Dialect::Node | Dialect::Rust => {
-                ARCHIVES.iter().find_map(|it| text.strip_suffix(it))?
+                let mut file = text;
+                while let Some(it) = ENDINGS.iter().find_map(|it| file.strip_suffix(it)) {
+                    file = it;
+                }
+                Some(file).filter(|it| it.len() < text.len())?
             }
             _ => return None,
         };
@@ -160,9 +164,7 @@ impl Dialect {
         let has_capital = system.starts_with(|it: char| it.is_ascii_uppercase());
         // Of container images `arm` is Armv7, and of Go it isn't.
         if has_capital && machine.eq_ignore_ascii_case("arm") {
-            let mut lower = Text::new();
-            lower.write_str(system).ok()?;
-            lower.make_lowercase();
+            let lower = Text::of_lower(&[system])?;
             return self.read_written(format_args!("{}/arm", lower.as_str()));
         }
         let dialect = if has_capital { Dialect::Oci } else { self };
@@ -324,6 +326,7 @@ impl Dialect {
         let mut words = before.split(|it: char| !it.is_ascii_alphanumeric());
         let may_be = version.allows_system(triple)
             && version.allows_library(triple)
+            && version.allows_form(triple)
             && (name.system != Said::Unsaid || name.allows_library(triple))
             && !(is_arm && FloatAbi::of(triple).is_none())
             && !(is_v7 && (words.any(is_of_raspbian) || evidence.machine() == Said::One(armv6)));
@@ -338,8 +341,11 @@ type Found = Result<Sense<'static>, NameError>;
 /// No name that ends a file's or a package's name is longer, in bytes.
 const LONGEST_NAME: usize = 40;
 
-/// What ends the names of archives and programs.
-const ARCHIVES: [&str; 7] = [".tar.gz", ".tar.xz", ".tar.zst", ".tar.bz2", ".tgz", ".zip", ".exe"];
+/// What ends the names of archives and programs, and of what is compressed, signed or summed.
+const ENDINGS: [&str; 14] = [
+    ".tar", ".gz", ".xz", ".zst", ".bz2", ".tgz", ".zip", ".7z", ".exe", ".sha256", ".sha512", ".asc", ".sig",
+    ".minisig",
+];
 
 /// What the folders of GoReleaser say of the machines that Go takes if nothing else is said.
 const USUAL_MACHINES: &str = "amd64_v1 arm64_v8.0 386_sse2 mips_hardfloat mipsle_hardfloat \

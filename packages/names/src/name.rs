@@ -28,9 +28,7 @@ impl Name {
 
     /// The name of these parts, if it isn't too long.
     pub(super) fn of(parts: &[&str]) -> Option<Name> {
-        let mut found = Buffer::new();
-        parts.iter().try_for_each(|part| found.write_str(part)).ok()?;
-        Some(Name(found))
+        Buffer::of(parts).map(Name)
     }
 
     /// The name that a pattern makes with these numbers. A test writes each row with the longest ones: all fit.
@@ -123,12 +121,25 @@ impl<const SIZE: usize> Buffer<SIZE> {
         Buffer { bytes: [0; SIZE], length: 0 }
     }
 
-    pub(super) fn as_str(&self) -> &str {
-        core::str::from_utf8(&self.bytes[..self.length]).unwrap_or("")
+    /// The parts one after the other.
+    pub(super) fn of(parts: &[&str]) -> Option<Self> {
+        let mut room = Buffer::new();
+        parts.iter().try_for_each(|part| room.write_str(part)).ok().map(|()| room)
     }
 
-    pub(super) fn make_lowercase(&mut self) {
-        self.bytes.make_ascii_lowercase();
+    pub(super) fn of_lower(parts: &[&str]) -> Option<Self> {
+        let mut room = Buffer::of(parts)?;
+        room.bytes.make_ascii_lowercase();
+        Some(room)
+    }
+
+    pub(super) fn of_chars(mut chars: impl Iterator<Item = char>) -> Option<Self> {
+        let mut room = Buffer::new();
+        chars.try_for_each(|it| room.write_char(it)).ok().map(|()| room)
+    }
+
+    pub(super) fn as_str(&self) -> &str {
+        core::str::from_utf8(&self.bytes[..self.length]).unwrap_or("")
     }
 }
 

@@ -6,8 +6,7 @@ use crate::name::Buffer;
 use crate::near::{ends_with_digit, is_of_tool, is_prefixed, near};
 use crate::suggestions::{architecture_of, vendor_suggestion};
 use crate::{Dialect, Evidence, Meaning, Meant, NameOf, Said, Sense};
-use core::fmt::Write;
-use core::iter::once;
+use core::iter::{once, successors};
 use target_lexicon::{Architecture, Environment, Field, OperatingSystem, TextPart, TripleRef, VendorRef};
 
 /// The words of a text that are targets or may be misspelled ones, from its start to its end. The text may be a list of
@@ -55,10 +54,11 @@ pub fn targets_in(text: &str) -> TargetsIn<'_> {
 /// The words of a text that a check looks at. Of a *list of targets*, in which more than half of the first items are
 /// names or may be misspelled ones, and which isn't a table, with several lines of several items, they are the items. Of
 /// any other text, such as a `.gitignore`, they are those of running text: the names that [`targets_in`] gives, what is
-/// an edit of a letter, a digit or a sign from one, and misspelled triples. Of other triples with a known vendor, of
-/// what has the parts of one and an unknown machine, and of other values of the fourth rule's keys that say a machine, or
-/// a system with a C library or before a slash, [`Word::is_unclear`] is true. A name that only has a word processor's
-/// dashes is given, with these. [`Word::verdict`] says what is wrong.
+/// an edit of a letter, a digit or a sign from one, and misspelled triples, also after words that say nothing and in
+/// variables of cargo. Of other triples with a known vendor, of what has the parts of one and an unknown machine, and of
+/// other values of the fourth rule's keys that say a machine, or a system with a C library or before a slash,
+/// [`Word::is_unclear`] is true. A name that only has a word processor's dashes is given, with these.
+/// [`Word::verdict`] says what is wrong.
 ///
 /// ```
 /// use target_names::words_in;
@@ -68,6 +68,7 @@ pub fn targets_in(text: &str) -> TargetsIn<'_> {
 /// assert_eq!(found("target: qrm-linux-musl"), [("qrm-linux-musl", true)]);
 /// assert_eq!(found("--platform=linux/amd64 ubuntu:22.04"), [("linux/amd64", false)]);
 /// assert_eq!(found("for aarch64-appledarwin"), [("aarch64-appledarwin", false)]);
+/// assert_eq!(found("a cargo-binstall-x86_64-unkown-linux-musl.gz"), [("x86_64-unkown-linux-musl", false)]);
 /// assert_eq!(found("an x86_64–linux–gnu, or Linux–arm64"), [("x86_64–linux–gnu", false)]);
 /// assert_eq!(found("0.5.0\ndist"), []);
 /// ```
@@ -194,7 +195,8 @@ impl<'a> Iterator for TargetsIn<'a> {
             if let Some((text, is_unclear)) = found {
                 let start = text.as_ptr() as usize - self.text.as_ptr() as usize;
                 let part = TextPart { text, start };
-                return Some(Word { part, is_item, is_unclear, is_value: self.value != Value::None });
+                let is_value = self.value != Value::None && !is_key(self.line);
+                return Some(Word { part, is_item, is_unclear, is_value });
             }
             if self.lines.is_empty() {
                 return None;
@@ -252,9 +254,10 @@ impl<'a> TargetsIn<'a> {
                 self.value = key();
                 let begins = |it: &str| it.starts_with(|it| is_of_word(it) || it == '$');
                 self.is_option = word.starts_with('-') && after.strip_prefix('=').map_or(false, begins);
-            } else if self.is_check && is_key_of_tool(before, word, after) {
+            } else if let Some(rest) = after_key_of_tool(before, word, after).filter(|_| self.is_check) {
                 self.value = if key() == Value::None { Value::None } else { Value::Part };
-                self.line = after[1..].trim_start();
+                self.is_option = word.starts_with('-');
+                self.line = rest.trim_start();
             }
             let is_rest = word.starts_with(|it: char| "-._".contains(it) || it.is_ascii_digit());
             let is_end = |it: &str| it.ends_with(PATTERN) && is_rest || it.ends_with('$') || is_escape(it, word);
@@ -262,8 +265,11 @@ impl<'a> TargetsIn<'a> {
             // What a variable is the folder of is a path: `$URL/foo-x86_64-linux.tar.gz`.
             if let Some(end) = word.find('/').filter(|_| self.is_check && before.ends_with('$')) {
                 self.line = &rest[end..];
+                continue;
             }
-            if is_end(before) || is_begun || after.starts_with(PATTERN) && word.ends_with(['-', '.', '_']) {
+            let is_pattern =
+                is_end(before) || is_begun || after.starts_with(PATTERN) && word.ends_with(['-', '.', '_']);
+            if is_pattern && !self.is_check {
                 continue;
             }
             // In C a word before a semicolon is a variable, and others are calls: `target = x23;`, `ARCH64 ()`.
@@ -296,30 +302,44 @@ impl<'a> TargetsIn<'a> {
                 // that of a program, of which GNU takes any vendor: `aarch64-linux-gnu-gcc`.
                 let is_name = |it: &&str| may_be_given(it, false) && name_of(it).is_some() && is_whole(it);
                 let tool = |it: &'a str| it.rsplit_once('-').map(|it| it.0);
-                let ends = |it: &'a str| [it.split_once('-').map(|it| it.1), tool(it), tool(it).and_then(tool)];
-                let follows = |it: &str| &word[it.as_ptr() as usize - word.as_ptr() as usize + it.len()..];
+                // After words that say nothing: `rust-analyzer-aarch64-apple-darwin`.
+                let is_title = |it: &(&str, &str)| it.1.contains('-') && Evidence::of(it.0).is_silent();
+                let rest = move |it: &&'a str| it.split_once(['-', '_']).filter(is_title).map(|it| it.1);
+                let title = |it: &'a str| successors(rest(&it), rest);
+                let is_long = |it: &&str| it.matches(['-', '_']).nth(1).is_some();
+                let tools = |it: &'a str| tool(it).into_iter().chain(tool(it).and_then(tool)).filter(is_long);
+                let at = |it: &str| it.as_ptr() as usize - word.as_ptr() as usize;
+                let follows = |it: &str| &word[at(it) + it.len()..];
                 // What ends within a number is no word: `linux-android-clang3` of `clang3.8`.
                 let goes_on = |it: &str| it.starts_with(|it: char| it.is_ascii_digit());
                 let is_cut = |it: &&str| ends_with_digit(it) && follows(it).strip_prefix('.').map_or(false, goes_on);
                 let whole = parts.clone().filter(|it| !is_cut(it));
-                let ends = whole.clone().flat_map(ends).flatten();
-                let ends = ends.filter(|it| it.contains('-') && it.matches(['-', '_']).nth(1).is_some());
-                let misspelled = || ends.clone().find(|it| near(it, false).is_some()).map(|it| (it, false));
-                if let Some(name) = parts.clone().find(is_name) {
+                let ends =
+                    whole.clone().flat_map(|it| title(it).chain(it.split_once('-').map(|it| it.1)).chain(tools(it)));
+                let mut wrong = ends.filter(|it| it.contains('-') && near(it, false).is_some());
+                if is_pattern {
+                    // Of a part of a pattern only what is wrong is said: `$VERSION-x86_64-linxu-gnu`.
+                    match whole.clone().find(|it| near(it, false).is_some()).or_else(|| wrong.next()) {
+                        Some(found) => return Some((found, false)),
+                        None => continue,
+                    }
+                }
+                let titled = whole.clone().flat_map(title).filter(|it| Evidence::of(it).has_machine());
+                if let Some(name) = parts.clone().chain(titled).find(is_name) {
                     // Another folder or file of a path may be misspelled.
-                    let is_apart = |it: &&str| !it.contains(name) && !name.contains(it);
-                    let apart =
-                        || ends.clone().filter(is_apart).find(|it| near(it, false).is_some()).map(|it| (it, false));
-                    let found = if is_known(name) { apart() } else { misspelled() };
-                    return found.or(Some((name, false)));
+                    let is_apart = |it: &&str| at(it) + it.len() < at(name) || at(it) > at(name) + name.len();
+                    let is_sure = is_known(name);
+                    return Some((wrong.find(|it| !is_sure || is_apart(it)).unwrap_or(name), false));
                 }
                 let is_part = is_part && is_alone(before, word, after);
                 // What ends with `+` is a compiler, as in `x86_64-unknown-haiku-g++`.
-                let mut found = whole.clone().filter(|it| !(it.len() < word.len() && word.ends_with('+')));
-                let is_part = |it: &str| is_part && !follows(it).starts_with('.');
+                let found = whole.clone().filter(|it| !(it.len() < word.len() && word.ends_with('+')));
+                let mut found = found.chain(in_name(word));
+                let is_part = |it: &str| follows(it) == ".deb" || is_part && !follows(it).starts_with('.');
                 let found = found.find_map(|it| Some((it, clarity(it, is_value, is_part(it))?)));
                 let is_clear = matches!(found, Some((_, false)));
-                if let Some(found) = found.filter(|_| is_clear).or_else(misspelled).or(found) {
+                let wrong = || wrong.next().map(|it| (it, false));
+                if let Some(found) = found.filter(|_| is_clear).or_else(wrong).or(found) {
                     return Some(found);
                 }
             } else if let Some(part) = parts.find(|it| given(it, value == Some(*it)).is_some()) {
@@ -330,6 +350,15 @@ impl<'a> TargetsIn<'a> {
             }
         }
     }
+}
+
+/// The target in the name of a variable of cargo or of the crate cc, or of a file of Debian: that of
+/// `CC_x86_64_unknown_linux_gnu`, and `arm64` of `hello_2.10-3_arm64.deb`.
+fn in_name(word: &str) -> Option<&str> {
+    let of_cargo = word.strip_prefix("CARGO_TARGET_").and_then(|it| it.rsplit_once('_')).map(|it| it.0);
+    let of_file = word.strip_suffix(".deb").and_then(|it| it.rsplit_once('_')).map(|it| it.1);
+    let start = word.find(|it: char| it.is_ascii_lowercase()).filter(|at| word[..*at].ends_with('_'));
+    of_cargo.or(of_file).or_else(|| start.map(|at| &word[at..]))
 }
 
 fn trimmed(word: &str) -> &str {
@@ -386,14 +415,16 @@ fn is_key(after: &str) -> bool {
     value.map_or(false, begins) || ["=", ":=", "?=", "+="].iter().any(|it| after.starts_with(it))
 }
 
-/// Whether a word is a key as CMake and Bazel have them: `set(CMAKE_SYSTEM_PROCESSOR arm64)`, `@platforms//cpu:arm64`.
-fn is_key_of_tool(before: &str, word: &str, after: &str) -> bool {
+/// What follows a key as tools have them: `set(CMAKE_SYSTEM_PROCESSOR arm64)`, `@platforms//cpu:arm64`,
+/// `ifeq ($(ARCH),arm64)`, `--arch arm64`.
+fn after_key_of_tool<'a>(before: &str, word: &str, after: &'a str) -> Option<&'a str> {
     let is_variable = |it: u8| it.is_ascii_uppercase() || it == b'_';
     let is_tools = word.starts_with("CMAKE_") || word.starts_with("VCPKG_");
-    let is_variable = is_tools && word.bytes().all(is_variable);
+    let is_variable = before.ends_with('(') && is_tools && word.bytes().all(is_variable);
     // At the start of a line it is a comment, such as `//go:build`.
-    let is_label = word.contains("//") && !before.is_empty() && after.starts_with(':');
-    before.ends_with('(') && is_variable && after.starts_with(' ') || is_label
+    let is_label = word.contains("//") && !before.is_empty();
+    let signs = [(before.ends_with("$("), "),"), (is_label, ":"), (is_variable || word.starts_with("--"), " ")];
+    signs.into_iter().find(|it| it.0).and_then(|it| after.strip_prefix(it.1))
 }
 
 /// Whether a word, if it has no digit, is a value on its own, and none of prose.
@@ -470,14 +501,17 @@ fn given(word: &str, is_value: bool) -> Option<WordIs<'_>> {
 fn clarity(word: &str, is_value: bool, is_part: bool) -> Option<bool> {
     let has_more = || word.matches('-').count() > 1;
     if let Some(is) = given(word, is_value).filter(|_| !is_prefixed(word)) {
+        let evidence = Evidence::of(word);
         let is_clear = match is {
-            WordIs::Name(_) => true,
+            // A custom vendor without a system isn't sure to be one.
+            WordIs::Name(_) => !(is_value && word.contains('-')) || is_whole(word) || evidence.unknown.is_none(),
             WordIs::Misspelled(it) => {
                 let may_be = is_value || it.part.text != word && has_more();
-                may_be && !Evidence::of(word).is_understood() || near(word, false).is_some()
+                may_be && !evidence.is_understood()
             }
-            WordIs::Unknown => is_value || near(word, false).is_some(),
+            WordIs::Unknown => is_value,
         };
+        let is_clear = is_clear || near(word, false).is_some();
         return (is_clear || is_value || has_more()).then_some(!is_clear);
     }
     let is_wrong = || is_value && is_of_unknown_environment(word) || near(word, is_part).is_some();
@@ -496,8 +530,9 @@ fn is_unclear(word: &str) -> bool {
     let evidence = Evidence::of(word);
     let is_runner = RUNNERS.iter().any(|it| word.strip_prefix(it).map_or(false, |it| it.starts_with('-')));
     let has_library = evidence.library != Said::Unsaid;
-    let has_system =
-        || has_library || word.contains('/') || is_like_triple(word) || word.split('-').next().map_or(false, is_of_tool);
+    let has_system = || {
+        has_library || word.contains('/') || is_like_triple(word) || word.split('-').next().map_or(false, is_of_tool)
+    };
     let is_said = evidence.machine() != Said::Unsaid || evidence.system != Said::Unsaid && has_system();
     is_said && !is_runner && name_of(word).is_none()
 }
@@ -560,9 +595,8 @@ fn is_of_unknown_system(word: &str) -> bool {
     let (machine, vendor, system) = (next(), next(), next());
     let is_known = |it| VendorRef::from_str(it).map_or(false, |it| !it.is_custom());
     architecture_of(machine).is_some() && is_known(vendor) && {
-        let mut room = Buffer::<LONGEST_PATH>::new();
-        let is_written = write!(room, "{machine}-{vendor}-{system}").is_ok();
-        is_written && TripleRef::from_str(room.as_str()).is_err() && !has_other_word(system)
+        let room = Buffer::<LONGEST_PATH>::of(&[machine, "-", vendor, "-", system]);
+        room.map_or(false, |it| TripleRef::from_str(it.as_str()).is_err()) && !has_other_word(system)
     }
 }
 

@@ -2,8 +2,8 @@
 use std::fmt::{self, Write};
 use target_lexicon::TripleRef;
 use target_names::{
-    changes, meanings, read, targets_in, vendor_suggestion, visible, Dialect, Evidence, Mistake, NameError, NameOf,
-    Suggest as _, TargetInfo, VersionOf, Versions, SHOWN,
+    changes, meanings, read, vendor_suggestion, visible, Dialect, Evidence, Mistake, NameError, NameOf, Suggest as _,
+    TargetInfo, VersionOf, Versions, SHOWN,
 };
 
 /// A writer with room for so many bytes.
@@ -125,7 +125,7 @@ its words name x86_64-unknown-linux-musl=fd-musl_1.2.0_linux-x64, ld-musl-x86_64
 its words name x86_64-unknown-uefi=BOOTX64.EFI
 its words name armeb-unknown-netbsd-eabihf of the level v6=earmv6hfeb
 its words name mipsisa32r6el-unknown-linux=linux-mips32r6el
-its words name i586-unknown-linux-musl=alpine-3.19-x86
+its words name i586-unknown-linux-musl=alpine-3.19-x86, alpine-i386
 its words name arm-unknown-linux-eabihf=rust-analyzer-linux-armhf
 its words say i686, windows; here nobody knows `664`=win32-x86-664";
 
@@ -235,7 +235,7 @@ i686-unknown-linux=uname Linux a 2.6.32-754.el6.i686 #1 SMP i686 i686 i386 GNU/L
 aarch64-linux-android=uname Linux localhost 4.14.1 aarch64 Android
 x86_64-unknown-freebsd=uname FreeBSD a 13.2 b amd64 Android
 x86_64-unknown-linux=uname Linux arm 6.1 x86_64 GNU/Linux, go tool-linux-amd64.tar.gz, go tool-linux-amd64.tar.bz2, \
-    node tool-linux-x64.tgz, \
+    node tool-linux-x64.tgz, go tool-linux-amd64.tar.xz.sha256, go tool-linux-amd64.gz, \
     uname Linux-x86_64, uname Linux_x86_64, uname  Linux x86_64, uname  Linux-x86_64 , uname Linux,x86_64
 x86_64-unknown-linux-gnu=debian hello-windows_1_amd64.deb, debian netcat-openbsd_1.219-1_amd64.deb, \
     debian alpine_2.26_amd64.deb, rpm netcat-openbsd-1.226-1.x86_64.rpm, pacman gnu-efi-3.0.18-3-x86_64.pkg.tar.zst, \
@@ -254,6 +254,7 @@ armv7-unknown-linux-musleabihf=dotnet dotnet-sdk-8.0-linux-musl-arm.tar.gz
     zig x86_64-linux.5.10...foo-gnu, python manylinux_2_17_x86_64.musllinux_1_2_x86_64, oci windows(10.0.*)/amd64, \
     oci linux(10.0)/amd64, oci windows(x)/amd64, go linux-i386-x86_64, oci linux/armhf/foo, \
     debian hello-musl_2.10_amd64.deb, debian foo_1.0_armv6_armhf.deb, node tool-linux-arm64/v9-musl, \
+    debian foo_1.0_android_arm64.deb, \
     node @scope/foo-linux-arm64-windows-x64, dotnet tool-linux-musl-arm.tar.gz, python macosx_11__arm64, \
     python macosx_11_00_arm64, python macosx_11_01_arm64, python macosx_11_+1_arm64, python macosx_11_256_arm64, \
     python macosx_11_1_1_arm64, python macosx_65536_0_arm64, python musllinux_1__aarch64, oci windows()/amd64, \
@@ -324,13 +325,6 @@ fn a_long_part_is_shortened() {
     assert_eq!(escaped, "\\u{202e}".repeat(SHOWN / 8) + "...");
     // It is cut short only where it is too long.
     assert!((0..10).all(|room| write!(Room(room), "{}", visible("\u{202e}ab")).is_err()));
-}
-
-#[test]
-fn words_say_whether_they_are_items() {
-    let of = |text| targets_in(text).map(|it| (it.part.text, it.is_item)).collect::<Vec<_>>();
-    assert_eq!(of("linux/amd64, foo"), [("linux/amd64", true), ("foo", true)]);
-    assert_eq!(of("build linux/amd64 and foo"), [("linux/amd64", false)]);
 }
 
 /// A name, or after `!` why there is none, and after `=` dialects with triples.

@@ -76,7 +76,10 @@ impl Answer for Explained<'_> {
         let suggestion =
             vendor_suggestion(triple).map(|name| format!("`{vendor}` is a custom vendor; did you mean `{name}`?"));
         let others = readers_note("", self.text);
-        for note in suggestion.into_iter().chain(others) {
+        let (width, environment) = (triple.pointer_width().ok(), triple.environment);
+        let width = width.filter(|it| Ok(*it) != triple.architecture.pointer_width());
+        let bits = width.map(|it| format!("`{environment}` says that pointers have {} bits", it.bits()));
+        for note in suggestion.into_iter().chain(bits).chain(others) {
             show!(page, "  ", padded("note", 17), " ", note, "\n")?;
         }
         Ok(())

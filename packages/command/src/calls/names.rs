@@ -21,6 +21,7 @@ pub fn command() -> Command {
                 .help("A field, such as `environment`; a tool; or `dialects`")
                 .value_parser(PossibleValuesParser::new(words)),
         )
+        .arg(flag("json", "Write one JSON object, of a list for each field or tool"))
 }
 
 pub fn run(arguments: &ArgMatches) -> Result<i32, Fault> {
@@ -29,23 +30,23 @@ pub fn run(arguments: &ArgMatches) -> Result<i32, Fault> {
 
 /// The names of the requested field or dialect, those of the dialects, or of each field below its own name.
 fn write_names(page: &mut Page<'_>, arguments: &ArgMatches) -> io::Result<()> {
-    let requested = arguments.get_one::<String>("of");
-    if let Some(dialect) = dialect_of(arguments, "of") {
-        return dialect.names().try_for_each(|name| show!(page, name, "\n"));
+    let requested = arguments.get_one("of").map(String::as_str);
+    let fields = FIELDS.iter().filter(|(key, _)| requested.map_or(true, |it| it == *key));
+    let lists: Vec<(_, Vec<&'static str>)> = match (dialect_of(arguments, "of"), requested) {
+        (Some(dialect), _) => vec![(dialect.name(), dialect.names().collect())],
+        (None, Some(DIALECTS)) => vec![(DIALECTS, dialects().collect())],
+        _ => fields.map(|(key, field)| (*key, known_names(*field).to_vec())).collect(),
+    };
+    if arguments.get_flag("json") {
+        let list = |names: Vec<&'static str>| Json::List(names.into_iter().map(Json::from).collect());
+        return show!(page, Json::Object(lists.into_iter().map(|(key, names)| (key, list(names))).collect()), "\n");
     }
-    if requested.map_or(false, |it| it == DIALECTS) {
-        return dialects().try_for_each(|name| show!(page, name, "\n"));
-    }
-    for (key, field) in FIELDS {
-        let indent = match requested {
-            None => {
-                show!(page, key, "\n")?;
-                "  "
-            }
-            Some(requested) if requested == key => "",
-            Some(_) => continue,
-        };
-        known_names(field).iter().try_for_each(|name| show!(page, indent, *name, "\n"))?;
+    for (key, names) in lists {
+        let indent = if requested.is_none() { "  " } else { "" };
+        if requested.is_none() {
+            show!(page, key, "\n")?;
+        }
+        names.into_iter().try_for_each(|name| show!(page, indent, name, "\n"))?;
     }
     Ok(())
 }

@@ -16,6 +16,7 @@ pub fn command() -> Command {
         from(),
         dialect("to", words(written()), "The tool whose names are written")
             .required(true)
+            .action(ArgAction::Append)
             .hide_possible_values(true)
             .long_help(wrapped(&format!(
                 "The tool whose names are written: {}",
@@ -52,15 +53,15 @@ fn version(text: &str) -> Result<Version, String> {
     }
 }
 
-/// Two versions of one C library or system.
+/// Two tools, or two versions of one C library or system.
 pub fn version_conflict(arguments: &ArgMatches) -> Option<clap::Error> {
-    VersionOf::ALL.into_iter().find_map(|of| {
-        let mut given = arguments.try_get_many::<Version>(of.name()).ok()??;
-        let first = given.next()?;
-        let other = given.find(|it| *it != first)?;
-        let [one, other] = [first, other].map(|(major, minor)| format!("--{} {major}.{minor}", of.name()));
-        Some(conflict(&one, &other))
-    })
+    let tools = arguments.try_get_many::<String>("to").ok()??.map(|it| format!("--to {it}"));
+    let given = |of: VersionOf| {
+        let given = arguments.try_get_many::<Version>(of.name()).ok()??;
+        Some(given.map(|(major, minor)| format!("--{} {major}.{minor}", of.name())).collect())
+    };
+    let mut all = VersionOf::ALL.into_iter().filter_map(given).chain([tools.collect::<Vec<_>>()]);
+    all.find_map(|it| Some(conflict(&it[0], it.iter().find(|other| **other != it[0])?)))
 }
 
 pub struct Translate {

@@ -54,13 +54,12 @@ impl<'a> Meanings<'a> {
                 Err(why) => what.without_triple.push((of.name(), why)),
             }
         }
-        if what.meanings.is_empty() && what.without_triple.is_empty() {
-            let evidence = Evidence::of(text);
-            if evidence.is_empty() || !text.is_ascii() || Meant::by(text).is_some() {
-                return Err(Refusal::unknown_to_all(text, None));
-            }
-            what.known = Some(evidence.to_string());
+        let evidence = Evidence::of(text);
+        let is_unknown = what.meanings.is_empty() && what.without_triple.is_empty();
+        if is_unknown && (evidence.is_empty() || !text.is_ascii() || Meant::by(text).is_some()) {
+            return Err(Refusal::unknown_to_all(text, None));
         }
+        what.known = (is_unknown || evidence.is_any_arm() && !evidence.has_system()).then(|| evidence.to_string());
         what.meanings.sort_by_key(|it| it.0.triple.operating_system == OperatingSystem::None_); // bare metal is last
         Ok(what)
     }
