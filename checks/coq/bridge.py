@@ -202,7 +202,7 @@ def write(root, folder, translated=None):
     put("Compiled", made.theorems(theorems, proofs) + RANGE)
     put("Derived", derived.write(crate, made.projections))
     others = "".join(compiled.HERE.joinpath(f"mir/{it}.v").read_text(encoding="utf-8") for it in ("Orders", "Borrowed"))
-    proved = {*made.lemmas, *re.findall(r"\w+", others)}
+    proved = {*made.lemmas, *re.findall(r"\bmir_\w+__(?:Partial)?Ord__\w+", others)}
     for title, it, _ in crate.out:
         if it and not title.endswith("_pure") and title not in proved and it.key[0] not in DERIVED:
             raise Untranslated(f"it is no function of the source, and no order of Orders.v (in {compiled.path(it)})")
