@@ -21,7 +21,7 @@ CONSTRUCTORS = {"Bool__true": "true", "Bool__false": "false", "Option__Some": "S
 # Words of Coq, and names of its library and of Kit.v that definitions use.
 TAKEN = set("""fun let in if then else match with end forall exists return as fix cofix for where Type Prop Set list
     option bool string map length fst snd codes at using struct mod values prod sum pair nil cons inl inr left right
-    true false tt""".split())
+    true false tt Some None True False""".split())
 
 
 def split_arrows(text):
@@ -210,6 +210,8 @@ class Coq:
             return "(" + ", ".join(map(go, it[1])) + ")"
         if kind == "if":
             return f"(if {go(it[1])} then {go(it[2])} else {go(it[3])})"
+        if kind in ("lam", "all", "any") and it[1] in scope - {"_"}:  # an alias of a pattern could be of the other one
+            raise Untranslated(f"a second variable {it[1]}")
         if kind == "lam":
             return f"(λ {self.local(it[1])}, {self.expression(d, it[2], scope | {it[1]}, renamed)})"
         if kind in ("all", "any"):

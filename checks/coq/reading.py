@@ -44,6 +44,14 @@ def relative(file, root):
     return file.relative_to(root) if file.is_relative_to(root) else file
 
 
+def read(file):
+    """The text of a file. Others than these characters are seen otherwise, or as these are."""
+    text = file.read_bytes().decode(errors="replace")
+    if other := re.search(r"[^\n -~¬×λℕ→↔∷≡≢≤⊎⊤⊥◌⟦⟧]", text):
+        raise Untranslated(f"{file}:{text.count(chr(10), 0, other.start()) + 1}: the character {other[0]!a}")
+    return text
+
+
 def chunks(text):
     """The parts of a file, each with the number of its line: each begins at the margin. Comments are left out."""
     found = []
@@ -95,12 +103,11 @@ class Parser:
             return ("if", self.after("if"), self.after("then"), self.after("else"))
         if token == "(" and re.match(r"\( ([\w ]+) : ", " ".join(it[0] for it in self.tokens[self.at:self.at + 12])):
             return self.quantified()
-        if token == "¬":
-            self.next()
-            return ("op", "→", self.application(), ("var", "⊥"))
         if level == len(LEVELS):
             return self.application()
-        left = self.expression(level + 1)
+        if token == "¬":
+            self.next()
+        left = ("op", "→", self.application(), ("var", "⊥")) if token == "¬" else self.expression(level + 1)
         while self.peek() in LEVELS[level]:
             operator = self.next()
             left = ("op", operator, left, self.expression(level + (operator in TO_THE_LEFT)))
@@ -110,15 +117,20 @@ class Parser:
         self.next("λ")
         names = []
         while self.peek() != ".":
-            names.append(self.group("(", ")")[0] if self.peek() == "(" else self.next())
+            name, colon, *_ = (*self.group("(", ")"), "") if self.peek() == "(" else (self.next(), ":")
+            if colon != ":" or not name.isidentifier():
+                raise Untranslated(f"the variable {name} of a function")
+            names.append(name)
         return functools.reduce(lambda body, name: ("lam", name, body), reversed(names), self.after("."))
 
     def quantified(self):
         """`(x y : T) → ..`, which may be followed by another group, or `(x : T) × ..`"""
         group = self.group("(", ")")
         names, type = group[:group.index(":")], " ".join(group[group.index(":") + 1:])
-        kind = "any" if self.peek() == "×" else "all"
-        body = self.expression() if self.peek() == "(" else self.after(self.peek())
+        kind, follows = "any" if self.peek() == "×" else "all", self.peek()
+        body = self.expression() if follows == "(" else self.after(follows)
+        if follows not in ("→", "×", "(") or follows == "(" and body[0] != "all":
+            raise Untranslated(f"{follows} after ({' '.join(group)})")
         return functools.reduce(lambda body, name: (kind, name, type, body), reversed(names), body)
 
     def application(self):
@@ -235,18 +247,14 @@ class Module:
     def __init__(self, path, file, root=ROOT):
         self.path, self.file = path, relative(file, root)
         self.definitions, self.constructors, self.uses, self.typed = {}, {}, {}, {}
-        try:
-            text = file.read_bytes().decode()
-        except UnicodeDecodeError:
-            raise Untranslated(f"{file} isn't UTF-8") from None
-        for chunk, line in chunks(text):
+        for chunk, line in chunks(read(file)):
             found = next(((kind, it) for kind, form in FORMS.items() if (it := re.match(form, chunk, re.S))), None)
             name = re.match(r"[\w-]+", chunk)
             if found:
                 getattr(self, f"read_{found[0]}")(found[1], line)
             elif name and name[0] in self.definitions:
                 self.read_clause(self.definitions[name[0]], chunk, line)
-            elif not chunk.startswith("pub mod "):
+            elif not re.fullmatch(r"pub mod [\w.]+", chunk):
                 raise Untranslated(f"{self.file}:{line}: this isn't understood: {chunk.splitlines()[0]}")
 
     def new(self, table, name, value):
@@ -286,6 +294,8 @@ class Module:
 
     def read_clause(self, definition, chunk, line):
         chunk, _, local = chunk.partition("\n  where\n")
+        if definition.chunks and (local or definition.locals and definition not in definition.locals.values()):
+            raise Untranslated(f"{self.file}:{line}: {definition.name}: several clauses, of which one has a `where`")
         definition.chunks.append(chunk)
         definition.lines.append(line)
         for part, _ in chunks(re.sub(r"^    ", "", local, flags=re.M)):
@@ -372,11 +382,13 @@ def code_types(root=ROOT):
     found = {}
     for crate in CRATES:
         for file in sorted((root / "crates" / crate / "src").rglob("*.rt")):
-            text = file.read_text(encoding="utf-8")
-            for it in re.finditer(r"^pub (enum|struct) (\w+)[^{;]*\{\n(.*?)^\}", text, re.M | re.S):
-                form = r"^    (\w+)(?:\((.*)\))?," if it[1] == "enum" else r"^    pub (\w+): (.*),"
+            for it in re.finditer(r"^pub (enum|struct) (\w+)[^{;]*\{\n(.*?)^\}", text := read(file), re.M | re.S):
+                form = r"^    (\w+)(?:\((.*)\))?,$" if it[1] == "enum" else r"^    pub (\w+): (.*),$"
                 line = text.count("\n", 0, it.start()) + 1
-                found.setdefault(it[2], Typed(it[1], [], re.findall(form, it[3], re.M), relative(file, root), line))
+                left = re.sub(rf"{form}|^ *(//|#\[|pub ghost ).*", "", it[3], flags=re.M).strip()
+                if left or it[2] in found:
+                    raise Untranslated(f"{relative(file, root)}:{line}: {left or 'a second type'} in {it[2]}")
+                found[it[2]] = Typed(it[1], [], re.findall(form, it[3], re.M), relative(file, root), line)
     return found
 
 
@@ -393,7 +405,7 @@ class Laws(Module):
         file = root / "crates" / crate / "src/laws.rt"
         self.path, self.file = ("Rattle", crate, "laws"), relative(file, root)
         self.definitions, self.constructors, self.uses, self.typed = {}, {}, {}, {}
-        text = re.sub(r"^ *//.*", "", file.read_text(encoding="utf-8"), flags=re.M)
+        text = re.sub(r"^ *//.*", "", read(file), flags=re.M)
         for it in LAW.finditer(text):
             if it["use"]:
                 self.read_use(re.match(FORMS["use"], it["use"]), 0)
