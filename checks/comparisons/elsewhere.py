@@ -80,7 +80,7 @@ OWN_WORDS = {"linux ppc64 of node": "powerpc64le", "windows/arm of go": "armv7",
 NOT_DPKG = ("aarch64", "i686", "x86_64", "amd64v3", "lpia", "iphoneos-arm", "iphoneos-arm64", "linux-amd64",
             "any-amd64", "hurd-any", "linux-any")
 # Names of Go without a triple that are no ports.
-NOT_PORTS = ("386", "amd64", "arm64", "linux/s390", "zos/s390x")
+NOT_PORTS = ("386", "amd64", "arm64", "mips64le", "mipsle", "wasm", "linux/s390", "zos/s390x")
 # Names of cargo-zigbuild that are no targets of rustc.
 NOT_RUSTC = ("universal2-apple-darwin",)
 # Other spellings that no rule of `spelled_by_rule` explains, and what they are read as.

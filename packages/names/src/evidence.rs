@@ -408,9 +408,10 @@ impl<'a> Evidence<'a> {
         if known.is_any_arm {
             known.add_machine(Architecture::Arm(ArmArchitecture::Arm));
         }
-        // A tool's name may say a level that no word does.
-        let is_same = |it: Sense<'_>| it == *sense || it == sense.triple.into();
-        known.sense().map_or(false, is_same)
+        // A tool's name may say a level that no word does, a format, or no system: `wasm32-unknown-unknown`.
+        let plain = TripleRef { binary_format: sense.triple.default_binary_format(), ..sense.triple };
+        let is_same = |it: Sense<'_>| it.triple == plain && ["", sense.level].contains(&it.level);
+        known.sense().map_or(plain.operating_system == OperatingSystem::Unknown && self.allows(sense), is_same)
     }
 
     /// What the words name: the triple that says just what they say, and the level of its machine that they say.

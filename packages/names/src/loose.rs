@@ -20,7 +20,7 @@ impl Dialect {
     /// | OCI | any version of Windows in parentheses |
     /// | Go | `_` or a dash instead of the slash; how GoReleaser's folders go on, such as `linux_amd64_v1`, and its capitals: `Linux_x86_64` |
     /// | GNU | a compiler's or another tool's name, its path, version and model of threads: `aarch64-linux-gnu-gcc-12`; only a dash |
-    /// | rustc | the version of glibc that cargo-zigbuild takes: `x86_64-unknown-linux-gnu.2.17` |
+    /// | rustc | the version of glibc that cargo-zigbuild takes: `x86_64-unknown-linux-gnu.2.17`; a channel of rustup: `nightly-wasm32-wasip1` |
     /// | Zig | a range of versions of the system: `x86_64-linux.5.10...6.1-gnu.2.31`; what follows `native` |
     /// | Go, Node, rustc | the file name of an archive: `helm-v3.14.0-linux-amd64.tar.gz` |
     /// | .NET | that of one of its own: `dotnet-sdk-8.0.100-linux-musl-arm.tar.gz` |
@@ -70,7 +70,7 @@ impl Dialect {
             Dialect::Go => self.read_port(text),
             Dialect::Gnu => self.read_compiler(text),
             Dialect::Zig => self.read_versions(text),
-            Dialect::Rust => self.read_version_of_glibc(text),
+            Dialect::Rust => self.read_target(text),
             Dialect::Debian => self.read_uclibc(text).or_else(|| self.read_architecture(text)),
             _ => None,
         }
@@ -201,8 +201,11 @@ impl Dialect {
         prefix.contains('-').then(|| self.sense(prefix))
     }
 
-    /// A target of rustc with the version of glibc, as cargo-zigbuild takes it.
-    fn read_version_of_glibc(self, text: &str) -> Option<Found> {
+    /// A target of rustc with the version of glibc, as cargo-zigbuild takes it, or after rustup's channel and its day.
+    fn read_target(self, text: &str) -> Option<Found> {
+        if let Some(rest) = ["stable-", "beta-", "nightly-"].iter().find_map(|it| text.strip_prefix(it)) {
+            return Some(self.sense(rest.trim_start_matches(|it: char| it.is_ascii_digit() || it == '-')));
+        }
         let (target, minor) = text.rsplit_once(".2.")?;
         let (_, environment) = target.rsplit_once('-')?;
         let has_glibc = environment.starts_with("gnu") && is_version(minor);
@@ -355,7 +358,7 @@ const USUAL_MACHINES: &str = "amd64_v1 arm64_v8.0 386_sse2 mips_hardfloat mipsle
 const TOOLS: &str = "gcc-ar gcc-nm gcc-ranlib gcov-dump gcov-tool lto-dump gcc g++ cc c++ cpp clang \
     clang++ gfortran ld as ar nm ranlib strip objcopy objdump readelf size strings addr2line c++filt \
     elfedit dwp gprof gdb ld.bfd ld.gold ld.lld gcov gccgo gdc gnatmake gm2 windres windmc dlltool \
-    dllwrap";
+    dllwrap pkg-config pkgconf cmake qmake";
 
 /// What `uname` prints after the machine.
 const AFTER_MACHINES: [&str; 10] =

@@ -362,7 +362,10 @@ fn in_name(word: &str) -> Option<&str> {
 }
 
 fn trimmed(word: &str) -> &str {
-    word.trim_matches(['-', '.', '/', '+', '_'])
+    let around = ['-', '.', '/', '+', '_'];
+    // `g++` and `c++` end so.
+    let word = if word.ends_with("++") { word } else { word.trim_end_matches(around) };
+    word.trim_start_matches(around)
 }
 
 /// Whether a word after a backslash is a byte in hexadecimal, as in `\x46`, or a letter for a sign and a name.
@@ -530,10 +533,9 @@ fn is_unclear(word: &str) -> bool {
     let evidence = Evidence::of(word);
     let is_runner = RUNNERS.iter().any(|it| word.strip_prefix(it).map_or(false, |it| it.starts_with('-')));
     let has_library = evidence.library != Said::Unsaid;
-    let has_system = || {
-        has_library || word.contains('/') || is_like_triple(word) || word.split('-').next().map_or(false, is_of_tool)
-    };
-    let is_said = evidence.machine() != Said::Unsaid || evidence.system != Said::Unsaid && has_system();
+    let has_system = || word.contains('/') || is_like_triple(word) || word.split('-').next().map_or(false, is_of_tool);
+    let is_said =
+        evidence.machine() != Said::Unsaid || evidence.system != Said::Unsaid && (has_library || has_system());
     is_said && !is_runner && name_of(word).is_none()
 }
 

@@ -240,16 +240,17 @@ x86_64-unknown-linux=uname Linux arm 6.1 x86_64 GNU/Linux, go tool-linux-amd64.t
 x86_64-unknown-linux-gnu=debian hello-windows_1_amd64.deb, debian netcat-openbsd_1.219-1_amd64.deb, \
     debian alpine_2.26_amd64.deb, rpm netcat-openbsd-1.226-1.x86_64.rpm, pacman gnu-efi-3.0.18-3-x86_64.pkg.tar.zst, \
     node @rollup/rollup-linux-x64-gnu, rust tool-x86_64-unknown-linux-gnu.tar.zst, \
-    debian binutils-mingw-w64-i686_2_amd64.deb, \
-    debian newlib-none_1_amd64.deb, debian amd64.deb, debian dc:amd64, debian g++:amd64, \
-    zig x86_64-linux.5.10-gnu.2.31, pacman zlib-1-2-x86_64.pkg.tar.zst, debian gcc-x86-64-linux-gnu_12.2_amd64.deb
-x86_64-pc-windows-msvc=rust tool-x86_64-pc-windows-msvc.exe
+    debian binutils-mingw-w64-i686_2_amd64.deb, debian newlib-none_1_amd64.deb, debian amd64.deb, debian dc:amd64, \
+    debian g++:amd64, zig x86_64-linux.5.10-gnu.2.31, pacman zlib-1-2-x86_64.pkg.tar.zst, \
+    debian gcc-x86-64-linux-gnu_12.2_amd64.deb
+x86_64-pc-windows-msvc=rust tool-x86_64-pc-windows-msvc.exe, rust nightly-2024-05-01-x86_64-pc-windows-msvc
+wasm32-unknown-unknown=rust rust-std-1.75.0-wasm32-unknown-unknown.tar.xz, rust stable-wasm32-unknown-unknown
+riscv32imac-unknown-none-elf=rust rust-std-1.75.0-riscv32imac-unknown-none-elf.tar.xz
 thumbv7neon-unknown-linux-musleabihf=rust tool-1.2-thumbv7neon-unknown-linux-musleabihf.tar.gz
 armv7-unknown-linux-musleabihf=dotnet dotnet-sdk-8.0-linux-musl-arm.tar.gz
-!=debian linux-image_1.rpi_armhf.deb, debian linux-image_1+rpt2_armhf.deb, \
-    debian x_1_arm.deb, go linux_armhf, go linux_386_softfloat, debian a:amd64, debian Libc:amd64, debian linux:amd64, \
-    go tool-amd64.zip, rpm gcc-8-1.aix7.2.x86_64.rpm, debian raspbian-x_1_armhf.deb, gnu gcc, gnu arm-gcc, \
-    gnu aarch64-linux-gnu-foo, \
+!=debian linux-image_1.rpi_armhf.deb, debian linux-image_1+rpt2_armhf.deb, debian x_1_arm.deb, go linux_armhf, \
+    go linux_386_softfloat, debian a:amd64, debian Libc:amd64, debian linux:amd64, go tool-amd64.zip, \
+    rpm gcc-8-1.aix7.2.x86_64.rpm, debian raspbian-x_1_armhf.deb, gnu gcc, gnu arm-gcc, gnu aarch64-linux-gnu-foo, \
     rust x86_64-unknown-linux-musl.2.17, rust x86_64-unknown-linux-gnu.2.x, zig x86_64-linux.foo-gnu, \
     zig x86_64-linux.5.10...foo-gnu, python manylinux_2_17_x86_64.musllinux_1_2_x86_64, oci windows(10.0.*)/amd64, \
     oci linux(10.0)/amd64, oci windows(x)/amd64, go linux-i386-x86_64, oci linux/armhf/foo, \
@@ -267,8 +268,8 @@ i686-unknown-linux-gnu=debian libc6:i386
 aarch64-unknown-linux-gnu=debian linux-image-amd64_6.1_arm64.deb, gnu /usr/bin/aarch64-linux-gnu-gcc-12, \
     rpm zlib-1.2-3.fc39.aarch64.rpm
 x86_64-pc-windows-gnu=gnu C:\\x\\x86_64-w64-mingw32-gcc.exe, gnu x86_64-w64-mingw32-gcc-12.2-posix, \
-    zig x86_64-windows.win10...win11-gnu, uname MINGW64_NT-6.1 x86_64, \
-    uname MINGW64_NT-10.0-26100-ARM64 x86_64
+    zig x86_64-windows.win10...win11-gnu, uname MINGW64_NT-6.1 x86_64, uname MINGW64_NT-10.0-26100-ARM64 x86_64, \
+    gnu x86_64-w64-mingw32-pkg-config, gnu x86_64-w64-mingw32-g++
 !the machine that asks=zig native-linux.5
 !no machine=python a-1-py3-none-any.whl
 i686-pc-windows=python cp311-abi3-win32

@@ -114,7 +114,7 @@ fn words_of_texts_are_given() {
     let wrong: Vec<_> = all.filter(|it| it.1 != *it.2).collect();
     assert!(wrong.is_empty(), "{wrong:#?}");
     let names = "x86_64-unknown-msvc plan9/amd64 linux_amd64 x86_64-pc-linux x86_64-elf x86_64-unknown-elf \
-        x86_64-foo-elf";
+        x86_64-foo-elf x86_64-linux-gnu-g++";
     names.split(' ').for_each(|it| same(&format!("foo bar {it}"), it));
     // A name that is too long isn't looked at for a misspelling.
     let long = |end| format!("x86_64-apple-ios17{}{end}", ".2".repeat(119));
