@@ -71,9 +71,12 @@ pub fn words(dialects: impl Iterator<Item = Dialect>) -> impl Iterator<Item = &'
     })
 }
 
-/// An option for one of the dialects.
-pub fn dialect(name: &'static str, words: impl Iterator<Item = &'static str>, help: &'static str) -> Arg {
-    Arg::new(name).long(name).value_name("DIALECT").value_parser(PossibleValuesParser::new(words)).help(help)
+/// An option for one of the dialects, which the long help lists before more words.
+pub fn dialect(name: &'static str, words: impl Iterator<Item = &'static str>, help: &'static str, more: &str) -> Arg {
+    let words: Vec<_> = words.collect();
+    let long = wrapped(&format!("{help}: {}{more}", words.join(", ")));
+    let option = Arg::new(name).long(name).value_name("DIALECT").value_parser(PossibleValuesParser::new(words));
+    option.hide_possible_values(true).help(help).long_help(long)
 }
 
 /// The names that all dialects have in arguments.
@@ -86,12 +89,14 @@ pub const SPELLED: &str = "llvm";
 
 /// An option for the dialect whose names are read.
 pub fn from() -> Arg {
-    dialect("from", dialects().chain([SPELLED]), "The tool whose names are read, instead of triples")
-        .hide_possible_values(true)
-        .long_help(wrapped(&format!(
-            "The tool whose names are read, instead of triples: {}; or {SPELLED} for what is spelled like a triple, as clang takes it after -target",
-            dialects().collect::<Vec<_>>().join(", ")
-        )))
+    let more = format!("; or {SPELLED} for what is spelled like a triple, as clang takes it after -target");
+    dialect("from", dialects(), "The tool whose names are read, instead of triples", &more)
+        .value_parser(PossibleValuesParser::new(dialects().chain([SPELLED])))
+}
+
+/// An option for a line for each line.
+pub fn keep_lines() -> Arg {
+    flag("keep-lines", "Write a line for each line of FILE, empty if it has no answer").conflicts_with("paths")
 }
 
 /// A text in lines that fit 100 columns with the indent of the long help.

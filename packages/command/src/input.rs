@@ -331,7 +331,9 @@ fn each_line(path: &Path, lines: Lines, answers: &mut impl Answers) -> Result<()
         let place = Place::Line { file: &name, number, indent: 0 };
         let is_list = lines.end != 0;
         text = text.strip_suffix('\r').filter(|_| is_list).unwrap_or(text);
-        let is_empty = is_list && matches!(text.trim_start().bytes().next(), None | Some(b'#'));
+        // JSON has lines of brackets.
+        let is_around = |it: char| it.is_whitespace() || !lines.are_kept && "[],".contains(it);
+        let is_empty = is_list && matches!(text.trim_start_matches(is_around).bytes().next(), None | Some(b'#'));
         match (Target { text, place, word: None }) {
             _ if is_empty => answers.skip_line()?,
             target if is_list && !lines.are_kept => each_of_list(target, answers)?,

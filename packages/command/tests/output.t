@@ -105,7 +105,7 @@ A warning is a member of the object:
   $ target-lexicon matrix --json aarch64-aple-darwin | grep -c warning
   1
 
-`settle` can keep a line for each line:
+`settle`, `translate` and `facts --get` can keep a line for each line:
 
   $ printf 'z80\nfoo\n\n# all\navr\n' > kept; command target-lexicon settle --keep-lines -f kept 2> /dev/null | paste kept -
   z80\tz80-unknown-unknown-elf (esc)
@@ -113,6 +113,10 @@ A warning is a member of the object:
   \t (esc)
   # all\t (esc)
   avr\tavr-unknown-unknown (esc)
+  $ command target-lexicon translate --to zig --keep-lines -f kept 2> /dev/null | grep -c ''
+  5
+  $ command target-lexicon facts --get pointer_width --keep-lines -f kept 2> /dev/null | tr '\n' ,
+  16,,,,16, (no-eol)
 
 Some facts of each target:
 

@@ -57,13 +57,13 @@ What was answered stays if another file isn't there:
 Each call takes targets as arguments, as lines, with commas between, and as lists have them:
 
   $ lists() {
-  >   of() { "$@" | sed -E 's/(argument|<stdin>):[12]/PLACE/'; }
+  >   of() { "$@" | sed -E 's/(argument|<stdin>):[123]/PLACE/'; }
   >   local one=x86_64-linux-gnu other=arm64-linux-gnu
   >   local expected=$(of "$@" $one $other)
   >   for list in "$one,$other" "[\"$one\", '$other']" " $one ,, $other, "; do
   >     [[ $(of "$@" "$list") == "$expected" && $(of "$@" <<< "$list") == "$expected" ]] || echo "$list"
   >   done
-  >   for list in "$one"$'\n'"$other" "- $one"$'\n'"- '$other'" "  \"$one\","$'\r\n\t'"\"$other\""$'\r'; do
+  >   for list in "$one"$'\n'"$other" "- $one"$'\n'"- '$other'" "  \"$one\","$'\r\n\t'"\"$other\""$'\r' $'[\n'"$one,"$'\n'"$other"$'\n],'; do
   >     [[ $(of "$@" <<< "$list") == "$expected" ]] || echo "$list"
   >   done
   >   echo "$*: $(grep -c . <<< "$expected")"

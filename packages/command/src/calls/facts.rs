@@ -12,7 +12,7 @@ pub fn command() -> Command {
         "Show the fields of a target, and what a compiler asks",
         "Example:\n  $ target-lexicon facts --json x86_64-unknown-linux-gnu | jq '.[].pointer_width'",
     )
-    .args([from(), libc()])
+    .args([from(), libc(), keep_lines().requires("get")])
     .arg(
         Arg::new("get")
             .long("get")

@@ -11,7 +11,7 @@ mod translate;
 mod what;
 
 // Each file takes these by `use super::*`.
-use crate::arguments::{flag, from, libc, of_targets};
+use crate::arguments::{flag, from, keep_lines, libc, of_targets};
 use crate::fault::Fault;
 use crate::fields::{canonical, FIELDS};
 use crate::input::Target;

@@ -10,9 +10,8 @@ pub fn command() -> Command {
         "Examples:\n  $ target-lexicon settle x86_64-linux arm64-linux-gnu\n  \
          $ target-lexicon settle --from oci linux/arm/v7\n  $ target-lexicon settle --from gnu \"$(cc -dumpmachine)\"",
     )
-    .args([from(), libc()])
+    .args([from(), libc(), keep_lines()])
     .arg(flag("changes", "As --from llvm, and show which parts are read as others").conflicts_with("from"))
-    .arg(flag("keep-lines", "Write a line for each line of FILE, empty if it has no answer").conflicts_with("paths"))
 }
 
 pub struct Settle {

@@ -1,6 +1,6 @@
 //! `translate`: the name that a tool has for a target.
 use super::*;
-use crate::arguments::{conflict, dialect, dialect_of, words, wrapped, written};
+use crate::arguments::{conflict, dialect, dialect_of, words, written};
 use clap::{Arg, ArgAction};
 use target_names::{level_spelled, Dialect, Name, Sense, TranslateError, VersionOf, Versions};
 
@@ -14,15 +14,11 @@ pub fn command() -> Command {
     )
     .args([
         from(),
-        dialect("to", words(written()), "The tool whose names are written")
+        dialect("to", words(written()), "The tool whose names are written", "")
             .required(true)
-            .action(ArgAction::Append)
-            .hide_possible_values(true)
-            .long_help(wrapped(&format!(
-                "The tool whose names are written: {}",
-                words(written()).collect::<Vec<_>>().join(", ")
-            ))),
+            .action(ArgAction::Append),
         libc(),
+        keep_lines(),
     ])
     .args(VersionOf::ALL.map(version_argument))
 }
