@@ -119,7 +119,7 @@ class Bridge:
         """Each theorem of the source of the functions that MIR has: there is what they compute, of which it is true."""
         texts = {file: re.sub(r"\(\*.*?\*\)", "", text, flags=re.S) for file, text in proofs.items()}
         said = [m for text in texts.values() for m in re.finditer(
-            r"^(Definition|Fixpoint|Inductive|Record|Notation|Infix|Let) (\S+)(?:(?!\.\s).)*\.$", text, re.M | re.S)]
+            r"(?:\A|(?<=\.\s))\s*(Definition|Fixpoint|Inductive|Record) (\S+)(?:(?!\.\s).)*", text, re.S)]
         helpers = {}
         for m in said:  # in order, so that those that one needs come before
             if re.search("|".join([r"\brs_", *(rf"\b{it}\b" for it in helpers)]), m[0]):
