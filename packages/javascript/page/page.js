@@ -6,7 +6,7 @@ import { namesEntry, toolNames, versionOf } from "./entries.mjs";
 import { byReason, driverFacts, factsCopied, grouped, plainRow, rowOf } from "./rows.mjs";
 import { about, found } from "./search.mjs";
 
-const lexicon = { DIALECTS, FIELDS, ParseError, Triple, WRITTEN, meanings, translate };
+const lexicon = { DIALECTS, FIELDS, ParseError, Triple, WRITTEN, check, meanings, translate };
 
 const LABELS = { architecture: "Architecture", vendor: "Vendor", operatingSystem: "System", environment: "Environment",
   binaryFormat: "Format" };
@@ -60,7 +60,8 @@ function wordsIn(text) {
   const targets = targetsIn(text), starts = [...targets.map((it) => it.start), Infinity],
     rest = starts.map((start, index) => text.slice(targets[index - 1]?.end ?? 0, start)).join(" ");
   if (!/\w/.test(rest)) return { items: targets, others: [] };
-  const refused = check(text).filter((it) => it.text === it.part && !starts.includes(it.start)),
+  const wordOf = (it, start = text.lastIndexOf(it.text, it.start)) => ({ ...it, start, end: start + it.text.length }),
+    refused = check(text).map((it) => wordOf(it)).filter((it) => !starts.includes(it.start)),
     certain = refused.filter((it) => !it.isUnclear), hasCertain = targets.length + certain.length > 0;
   const items = [...targets, ...hasCertain ? certain : refused].sort((one, other) => one.start - other.start),
     words = new Set(rest.replace(/(^|\s)#.*/gm, "").match(/[\w./+-]+/g)),
@@ -216,10 +217,10 @@ function soFar(fields) {
 }
 
 function fillRefused(row, target) {
-  const { text, wrong: error, fields, suggestion, nearest } = target, inside = meaningLines(target);
+  const { text, error, wrong, fields, suggestion, nearest } = target, inside = meaningLines(target);
   if (!inside.length) {
     inside.push(element("p", { class: "message" }, `${error.report.split(":", 1)[0]}: ${shown(error.part)}`));
-    if (suggestion) inside.push(element("p", {}, ...question(suggestion, text, error)));
+    if (suggestion) inside.push(element("p", {}, ...question(suggestion, text, wrong)));
     const [, it, meant] = /^i(n ASCII it is|ts words name) `?([^`, ]+)`?$/.exec(error.note) ?? [];
     if (meant) inside.push(element("p", {}, `I${it} `, offer(meant, text, meant), "."));
     else if (error.note && !suggestion && !nearest.length) inside.push(element("p", {}, `Note: ${error.note}`));
@@ -515,14 +516,14 @@ function edited(isPage = false) {
 let known; // the targets, with what they are searched by
 let heard;
 
-/** Shows the targets that the words of the search are about, which a click adds to the list. A pause announces them. */
+/** Shows the targets that the words of the search are about, which a click adds to the user's. A pause says them. */
 function search() {
   known ??= new Map(TARGETS.map((target) => [target, about(target, Triple.parse(target), VALUES)]));
   const { targets: all, unknown, isAll } = found(byId("search").value, known);
   const offers = all.slice(0, MOST_FOUND).map((target) => {
     const button = element("button", { type: "button", class: "offer", "aria-label": `Add ${target}` }, target);
     button.addEventListener("click", () => {
-      typeOver(0, 0, `${target}\n`);
+      typeOver(0, field.value === field.defaultValue ? field.value.length : 0, `${target}\n`);
       button.focus();
       edited(true);
     });
@@ -556,21 +557,13 @@ async function copy(button, text, said) {
   say(said);
 }
 
-function copyJson(button, entryOf) {
-  return copy(button, JSON.stringify(linesOf(field.value).map(entryOf), null, 2),
-    `Copied ${chipOf("all").textContent} as JSON.`);
-}
+const copyJson = (button, entryOf) => copy(button, JSON.stringify(linesOf(field.value).map(entryOf), null, 2),
+  `Copied ${chipOf("all").textContent} as JSON.`);
 
 function copyLink(button) {
   const link = linkOf(linesOf(field.value));
   return link === null ? say("These targets are too long for a link.")
     : copy(button, link, "Copied the link to these targets.");
-}
-
-/** Empties the text field, where the focus then is. */
-function clear() {
-  typeOver(0, field.value.length, "");
-  return edited(true);
 }
 
 // ---- the beginning
@@ -590,6 +583,8 @@ async function begin() {
     show();
   });
   byId("search").addEventListener("input", search);
+  byId("search").addEventListener("keyup", ({ key }) =>
+    key === "Enter" && byId("found").querySelector("button")?.focus());
   const entries = { copy_names: (text) => namesEntry(lexicon, text, chosenLibcs()),
     copy_facts: (text) => factsCopied(lexicon, text, chosenLibcs()) };
   for (const [id, entryOf] of Object.entries(entries))
@@ -601,7 +596,7 @@ async function begin() {
       edited(true);
     });
   }
-  byId("clear").addEventListener("click", clear);
+  byId("clear").addEventListener("click", () => { typeOver(0, field.value.length, ""); edited(true); });
   byId("chips").addEventListener("click", ({ target }) => target.dataset.show && showOnly(target.dataset.show));
   followLink();
   await show();

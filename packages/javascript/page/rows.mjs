@@ -90,10 +90,11 @@ function* otherMeanings(meant, own) {
   else if (rust && (!own || own.operatingSystem === "unknown")) yield { tools: [], reason: rust };
 }
 
-/** The nearest names of tools for one that nobody knows: for each name, which tools have it. */
+/** The nearest names of tools for one that nobody knows: for each, except a machine in a path, which tools have it. */
 function nearestNames(lexicon, text) {
-  const suggested = (dialect) => [readIn(lexicon, text, dialect).error?.suggestion, dialect];
-  const found = lexicon.DIALECTS.filter((dialect) => dialect !== "gnu").map(suggested).filter(([name]) => name);
+  const suggested = (dialect) => [readIn(lexicon, text, dialect).error?.suggestion, dialect],
+    isNear = ([name]) => name && (name.includes("-") || !text.includes(`/${name}/`));
+  const found = lexicon.DIALECTS.filter((dialect) => dialect !== "gnu").map(suggested).filter(isNear);
   return [...grouped(found)].map(([name, tools]) => ({ name, tools }));
 }
 
@@ -121,9 +122,11 @@ const UNIVERSAL = ["x86_64-apple-darwin", "aarch64-apple-darwin"].map((meant) =>
 
 function refused(lexicon, { text, error, fields, suggestion }, meant) {
   const others = text === "universal2" ? UNIVERSAL : [...otherMeanings(meant, null)],
-    isNearName = !others.length && !suggestion && error.start === 0 && text.length < 1000; // as no name is longer
-  return { kind: "refused", wrong: error, fields, others, suggestion: others.length ? null : suggestion,
-    nearest: isNearName ? nearestNames(lexicon, text) : [] };
+    isNearName = !others.length && !suggestion && error.start === 0 && text.length < 1000, // as no name is longer
+    nearest = isNearName ? nearestNames(lexicon, text) : [],
+    found = isNearName && !nearest.length ? lexicon.check(text).find((it) => it.suggestion) : null;
+  return { kind: "refused", error, wrong: found ?? error, fields, others, nearest,
+    suggestion: others.length ? null : found?.suggestion ?? suggestion };
 }
 
 /** The first of what `rowOf` says of a triple of a known vendor, in a small part of the time; null of anything else. */

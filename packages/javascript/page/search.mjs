@@ -20,9 +20,10 @@ const ABOUT = [
   [/^(jetson|graviton\d?|ampere)$/, /^aarch64-unknown-linux-gnu$/], [/^steamdeck$/, /^x86_64-unknown-linux-gnu$/],
   [/^(nvidia|cuda)$/, /^nvptx/], [/^(radeon|rocm)$/, /^amdgcn/], [/^gpu$/, /^(nvptx|amdgcn)/], [/^ebpf$/, /^bpf/],
   [/^(win|windows|microsoft)$/, /-windows-/], [/^win64$/, /^x86_64-.*-windows-/], [/^(msys2?|ucrt64)$/, /-windows-gnu/],
-  [/^(ubuntu|debian|fedora|redhat|rhel|centos|amazon|suse|arch)$/, /-linux-gnu/], [/^alpine$/, /-linux-musl/],
-  [/^wsl\d?$/, /^x86_64-unknown-linux-(gnu|musl)$/], [/^harmonyos$/, /-linux-ohos$/],
-  [/^(aws|ec2|lambda|chromebook)$/, /^(aarch64|x86_64)-unknown-linux-(gnu|musl)$/],
+  [/^(ubuntu|debian|fedora|redhat|rhel|centos|alma|rocky|amazon|(open)?suse|arch|mint|nixos)$/, /-linux-gnu/],
+  [/^alpine$/, /-linux-musl/], [/^termux$/, /-linux-android/], [/^harmonyos$/, /-linux-ohos$/],
+  [/^wsl\d?$/, /^x86_64-unknown-linux-(gnu|musl)$/], [/^raspbian$/, /^arm(v6)?-unknown-linux-gnueabihf$/],
+  [/^(aws|ec2|lambda|chrom(e|ium|ebook))$/, /^(aarch64|x86_64)-unknown-linux-(gnu|musl)$/],
   [/^(docker|podman|kubernetes|containers?)$/, /-linux-(gnu|musl)/],
 ];
 
@@ -35,10 +36,10 @@ const WORDS = [[/\brisc[- ]v/g, "riscv"], [/\bcortex[- ]m[01]\b\+?/g, "thumbv6m"
   [/\bpi[- ]zero( ?w)?\b/g, "pi1"], [/\br?pi[- ]?(\d)/g, "pi$1"], [/\besp32[- ]([chps]\d)/g, "esp32$1"],
   [/\bsteam ?(deck|os)\b/g, "steamdeck"], [/\bnvidia jetson\b/g, "jetson"], [/\bwindows 7\b/g, "win7"],
   [/\b(iphone|ipad) simulator\b/g, "ios simulator"], [/\b(ibm|system) z\b/g, "mainframe"],
-  [/\biphone 5c?\b/g, "armv7s ios"], [/\biphone (3g|4)(s?)\b/g, "iphone$1$2"]];
+  [/\biphone 5c?\b/g, "armv7s ios"], [/\biphone (3g|4)(s?)\b/g, "iphone$1$2"], [/\bos x\b/g, "osx"]];
 
-// Words that say nothing; and one that a text has of another machine than its target.
-const SILENT = /^(an?|and|for|in|my|of|on|or|the|to|with)$/, FOREIGN = "switch";
+// Words that say nothing; and those that a text has of something else than its target.
+const SILENT = /^(an?|and|for|in|my|of|on|or|os|the|to|with)$/, FOREIGN = /^(switch|rust)$/;
 
 // The most usual machines, the usual ones, and the usual systems.
 const USUAL = [/^aarch64-|^x86_64-(?!apple-|linux-android)/,
@@ -69,9 +70,9 @@ export function found(query, known) {
   const rows = [...known].map(([target, { parts, facts, texts }]) => {
     const isWhole = (word) => parts.includes(word) || facts.includes(word)
       || ABOUT.some(([of, it]) => of.test(word) && it.test(target));
-    const begins = (word) => /[a-z]/.test(word) && parts.some((it) => it.startsWith(word));
+    const begins = (word) => (words[1] ? /[a-z]./ : /[a-z]/).test(word) && parts.some((it) => it.startsWith(word));
     return [target, words.map((word) => isWhole(word) ? 0 : begins(word) ? 1
-      : word.length > 3 && word !== FOREIGN && texts.includes(word) ? 2 : 3)];
+      : word.length > 3 && !FOREIGN.test(word) && texts.includes(word) ? 2 : 3)];
   });
   const nearest = words.map((_, at) => Math.min(...rows.map(([, ranks]) => ranks[at])));
   // Beside a word that no target is about, one that only texts have means something else: `google cloud`.

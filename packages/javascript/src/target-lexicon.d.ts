@@ -270,8 +270,8 @@ export function namesOf<Name extends Field>(
   field: Name): readonly (Name extends "vendor" ? KnownVendor : Values[Name])[];
 
 /**
- * The triple that Node, Deno or Bun runs as, by `process.arch` and `process.platform`; what these don't say is unknown.
- * Throws an Error in a browser.
+ * The triple that Node, Deno or Bun runs as, by `process`, which may say the C library too; what it doesn't say
+ * is unknown. Throws an Error in a browser.
  */
 export function host(): Triple;
 

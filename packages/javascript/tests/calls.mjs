@@ -74,6 +74,7 @@ const tests = {
       ["amd64", "other", null, null, "debian", "rpm", "go: a machine without a system",
         "oci: half of a platform: containerd adds that of the host"],
       ["linux/amd46", "refused", "linux/amd46", null, "linux/amd64 of go,oci"], ["amd65", "refused", "amd65", null],
+      ["linux/amd65", "refused", "amd65", "amd64"], ["linux/arm/v9", "refused", "linux/arm/v9", null],
       ["universal2", "refused", "universal2", null, "python: x86_64-apple-darwin", "python: aarch64-apple-darwin"],
     ]) assert.deepEqual(said(text), wanted);
     const { triple, stated, fields } = rowOf(all, "linux/arm64", ["musl"]);
