@@ -119,7 +119,7 @@ impl Reader {
                 Ok(Meant::NoTriple(None))
             }
             Verdict::Unknown(meant) => Err(Refusal::unknown_to_all(text, meant)),
-            Verdict::Right(triple) if is_of_several(text, triple) => {
+            Verdict::Right(triple) if !text.contains('-') && is_of_several(text, triple) => {
                 Ok(Meant::NoTriple(Some(Refusal::of_all("tools mean different targets by", text))))
             }
             Verdict::Right(triple) if TripleRef::from_str(text) != Ok(triple) => {
@@ -180,7 +180,7 @@ fn is_of_several(text: &str, triple: TripleRef<'_>) -> bool {
     let evidence = Evidence::of(text);
     let mut meant = meanings(text).filter_map(|it| Some(it.sense.ok()?.triple.operating_system));
     let is_own = TripleRef::from_str(text) == Ok(triple) && !evidence.is_any_arm();
-    !text.contains('-') && !evidence.has_system() && (!is_own || meant.any(|it| !matches!(it, None_ | Unknown)))
+    !evidence.has_system() && (!is_own || meant.any(|it| !matches!(it, None_ | Unknown)))
 }
 
 fn lost_level<'a>(text: &'a str, level: &str) -> Option<Refusal<'a>> {

@@ -316,10 +316,11 @@ impl<'a> TargetsIn<'a> {
                 let whole = parts.clone().filter(|it| !is_cut(it));
                 let ends =
                     whole.clone().flat_map(|it| title(it).chain(it.split_once('-').map(|it| it.1)).chain(tools(it)));
-                let mut wrong = ends.filter(|it| it.contains('-') && near(it, false).is_some());
+                let mut ends = ends.filter(|it| it.contains('-'));
+                let is_wrong = |it: &&str| near(it, false).is_some();
                 if is_pattern {
                     // Of a part of a pattern only what is wrong is said: `$VERSION-x86_64-linxu-gnu`.
-                    match whole.clone().find(|it| near(it, false).is_some()).or_else(|| wrong.next()) {
+                    match whole.clone().chain(ends).find(is_wrong) {
                         Some(found) => return Some((found, false)),
                         None => continue,
                     }
@@ -329,7 +330,7 @@ impl<'a> TargetsIn<'a> {
                     // Another folder or file of a path may be misspelled.
                     let is_apart = |it: &&str| at(it) + it.len() < at(name) || at(it) > at(name) + name.len();
                     let is_sure = is_known(name);
-                    return Some((wrong.find(|it| !is_sure || is_apart(it)).unwrap_or(name), false));
+                    return Some((ends.find(|it| (!is_sure || is_apart(it)) && is_wrong(it)).unwrap_or(name), false));
                 }
                 let is_part = is_part && is_alone(before, word, after);
                 // What ends with `+` is a compiler, as in `x86_64-unknown-haiku-g++`.
@@ -338,7 +339,7 @@ impl<'a> TargetsIn<'a> {
                 let is_part = |it: &str| follows(it) == ".deb" || is_part && !follows(it).starts_with('.');
                 let found = found.find_map(|it| Some((it, clarity(it, is_value, is_part(it))?)));
                 let is_clear = matches!(found, Some((_, false)));
-                let wrong = || wrong.next().map(|it| (it, false));
+                let wrong = || ends.find(is_wrong).map(|it| (it, false));
                 if let Some(found) = found.filter(|_| is_clear).or_else(wrong).or(found) {
                     return Some(found);
                 }
