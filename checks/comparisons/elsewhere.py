@@ -486,7 +486,7 @@ class Comparison(Report):
 
     def check_python(self):
         self.has("Python's sysconfig", True)
-        tags = {name: re.sub("[-.]", "_", name) for name in python_platforms.from_sysconfig()}
+        tags = {name: re.sub("[-.]", "_", name).lower() for name in python_platforms.from_sysconfig()}
         said = {name: self.read(name, "python") for name in tags}
         self.fact("what sysconfig says is read", ((name, it is not None, True) for name, it in said.items()))
         # A deployment target may be one number. The tag that is written has two.

@@ -422,7 +422,7 @@ static const struct row {
   {versioned, "aarch64-apple-darwin", {PYTHON, 2, 11, 0}, LEXICON_OK, "macosx_11_0_arm64"},
   {versioned, "aarch64-apple-ios", {PYTHON, 3, 17, 1}, LEXICON_OK, "ios_17_1_arm64_iphoneos"},
   {versioned, "aarch64-linux-android", {PYTHON, 4, 21, 0}, LEXICON_OK, "android_21_arm64_v8a"},
-  {versioned, "x86_64-unknown-freebsd", {PYTHON, 5, 14, 1}, LEXICON_OK, "freebsd_14_1_RELEASE_amd64"},
+  {versioned, "x86_64-unknown-freebsd", {PYTHON, 5, 14, 1}, LEXICON_OK, "freebsd_14_1_release_amd64"},
   {versioned, "x86_64-unknown-freebsd", {PYTHON, 0, 2, 17}, LEXICON_TRIPLE_WITHOUT_NAME, NULL},
   {versioned, "x86_64-unknown-linux-gnu", {PYTHON, 2, 11, 0}, LEXICON_OK, "linux_x86_64"},
   {versioned, "x86_64-unknown-linux-gnu", {PYTHON, 0, 65535, 255}, LEXICON_TRIPLE_WITHOUT_NAME, NULL},

@@ -187,7 +187,7 @@ A version is one or two numbers, of a C library or a system by its name; one of 
   macosx_11_0_arm64
   ios_17_0_arm64_iphoneos
   android_21_arm64_v8a
-  freebsd_14_1_RELEASE_amd64
+  freebsd_14_1_release_amd64
   win32
   $ for it in 2.17' --glibc 2.28' '2.17 --to go'; do python --glibc $it avr | head -n 1; done
   ! error: `--glibc 2.17` and `--glibc 2.28` can't be used together

@@ -489,6 +489,7 @@ impl<'a> Note<'a> {
     /// assert_eq!(note("\u{201c}x86_64\u{2011}linux\u{2013}gnu\u{200b}\u{201d}", None).unwrap(), ascii);
     /// assert_eq!(note("linux/amr64", None).unwrap(), "its words say linux, and no single machine known here");
     /// assert_eq!(note("linux/arm", Some(Dialect::Debian)).unwrap(), "it is a name of go and oci");
+    /// assert_eq!(note("x86_64_v3-linux", None).unwrap(), "its words name x86_64-unknown-linux of the level v3");
     /// assert_eq!(note("linux/arm", None), None); // `readers` says who reads it
     /// ```
     #[must_use]
@@ -511,7 +512,7 @@ impl<'a> Note<'a> {
             }
             None if readers(text).next().is_some() || Meant::by(text).is_some() => None,
             // A number that nobody knows may be of the machine, as in `x86_46`: then it isn't the one that is said.
-            None => words().filter(|it| !says_digit_last(it) && (is_refused_whole(text) || says_a_triple(it))),
+            None => words().filter(|it| says_a_triple(it) || !says_digit_last(it) && is_refused_whole(text)),
         }
     }
 }

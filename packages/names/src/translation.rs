@@ -281,8 +281,8 @@ impl Dialect {
         }
     }
 
-    /// The reason, by the machines and systems of the dialect's rows. Of the rows that are written one with the machine and
-    /// the system says more than one that only has the system, and that more than one that only has the machine.
+    /// The reason, by the machines and systems of the dialect's rows. One with the machine and the system says more than
+    /// one that only has the system, and that more than one that only has the machine.
     fn why_rows(self, triple: &TripleRef<'_>) -> WriteError {
         let shape = self.shape(triple);
         let is_arm = |it: &TripleRef<'_>| matches!(it.architecture, Architecture::Arm(_));
@@ -292,17 +292,7 @@ impl Dialect {
             let is_android = library_and_abi(named.environment).0 == "bionic";
             let has_system = named.operating_system == shape.operating_system && !is_android;
             let has_machine = named.architecture == shape.architecture;
-            if is_written(row) {
-                why = match why {
-                    WriteError::NoAbi => why,
-                    _ if has_system && has_machine => WriteError::NoAbi,
-                    _ if has_system => WriteError::NoMachine,
-                    WriteError::NoMachineOnAnySystem if has_machine || is_arm(&named) && is_arm(&shape) => {
-                        WriteError::NoSystem
-                    }
-                    _ => why,
-                };
-            } else if named == shape && row.2 == Way::Read {
+            if !is_written(row) && named == shape && row.2 == Way::Read {
                 let is_versioned = |major: &u16| has_version(*major, 0, row.0);
                 return if FIRST_NUMBERS.iter().any(is_versioned) && self.states_version(triple.into()) {
                     WriteError::NeedsVersion
@@ -310,6 +300,15 @@ impl Dialect {
                     WriteError::OnlyReadNames
                 };
             }
+            why = match why {
+                WriteError::NoAbi => why,
+                _ if has_system && has_machine => WriteError::NoAbi,
+                _ if has_system => WriteError::NoMachine,
+                WriteError::NoMachineOnAnySystem if has_machine || is_arm(&named) && is_arm(&shape) => {
+                    WriteError::NoSystem
+                }
+                _ => why,
+            };
         }
         why
     }

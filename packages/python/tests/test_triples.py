@@ -190,8 +190,8 @@ class Refusals(Refused):
     def test_messages(self):
         for text, message in {
             "x86_64-foo-bar": "Unrecognized operating system: bar\n  x86_64-foo-bar\n             ^^^",
-            "": "Unrecognized architecture: \n  \n  ^",
-            "x86_64-": "Unrecognized vendor: \n  x86_64-\n         ^",
+            "": "Unrecognized architecture: \n  \n  ^ it is empty",
+            "x86_64-": "Unrecognized vendor: \n  x86_64-\n         ^ it is empty",
             "x86_64-pc-l\u00e9\tx": "Unrecognized operating system: l\\xe9\\tx\n"
                                    "  x86_64-pc-l\\xe9\\tx\n            ^^^^^^^^",
             "x86_64-linux-elf-gnu": "Unrecognized field: gnu\n  x86_64-linux-elf-gnu\n                   ^^^\n"

@@ -27,5 +27,5 @@ def _number(value: str, of: Type[NamedValue], what: str) -> int:
         near = [it for it in known
                 if word.startswith(it) or word[1:] and it.startswith(word) or sorted(it) == sorted(word)]
         meant = f"; did you mean {'glibc or mingw' if word == 'gnu' else near[0]}?" if near else ""
-        raise ValueError(f"the {what} must be one of {', '.join(names)}, not {shown(value)}{meant}")
+        raise ValueError(f"the {what} must be one of {', '.join(known)}, not {shown(value)}{meant}")
     return names.index(of(value)) + 1

@@ -106,7 +106,7 @@ class ParseError(ValueError):
         begin, part, end = (last_shown(self.text[:self.start]), first_shown(self.part),
                             first_shown(self.text[self.end:]))
         name, reason = self.suggestion, self.reason
-        hint = f" did you mean `{name}`?" if name else f" {reason}" if reason else ""
+        hint = f" did you mean `{name}`?" if name else f" {reason}" if reason else "" if part else " it is empty"
         note = self._note()
         return (f"{self._line(part)}\n  {begin}{part}{end}\n  {' ' * len(begin)}{'^' * max(1, len(part))}{hint}"
                 + (f"\n  note: {note}" if note else ""))

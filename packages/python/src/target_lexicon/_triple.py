@@ -180,7 +180,8 @@ class Triple(FactsOfTriple, Immutable):
             raise TypeError(f"the fields must be a mapping, not {type(values).__name__}")
         unknown = [it for it in values if it not in Facts._fields]
         if unknown:
-            raise ValueError(f"a triple has no {', '.join(shown(str(it)) for it in unknown)}")
+            words = ", ".join(shown(str(it)) for it in unknown)
+            raise ValueError(f"a triple has no {words}: its fields are {', '.join(FIELDS)} and version")
         architecture, vendor, system, environment = (values.get(it, "unknown") for it in FIELDS[:4])
         form, version = values.get("binary_format"), values.get("version")
         if isinstance(version, str):
