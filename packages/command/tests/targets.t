@@ -181,7 +181,7 @@ An unknown environment after a machine and a system is wrong, and so is what is 
   > x86_64-apple-darwin.runner = "qemu"
   > END
   $ cat > more.yml << 'END'
-  > platform: [macsx_11_0_arm64, x64-windows-static, irix-mips3, sun4, Win64i...]
+  > platform: [macsx_11_0_arm64, x64-windows-static, irix-mips3, sun4, Win64i..., x86_64-Apple-Darwin]
   > arch: [amd46, systemd]
   > //go:build arm64be
   > run: aarch64-linu-gnu-gcc i386-win32 projects/linux-atm i?86-linux PowerPC64-linux i686-inux s390x-64
@@ -214,7 +214,7 @@ An unknown environment after a machine and a system is wrong, and so is what is 
   9 linux/arn64: linux/arm64
   9 linux-arn64: linux-arm64
   10 arn64: arm64
-  note: 1 word that may be a target isn't understood: --strict shows each
+  note: 2 words that may be targets aren't understood: --strict shows each
 
 A sign, two letters or a dash of a word processor may be wrong in the name of a program or of a file, too. A letter of one's own before a name, calls, and words of other tools aren't wrong:
 

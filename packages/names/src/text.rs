@@ -526,9 +526,9 @@ fn clarity(word: &str, is_value: bool, is_part: bool) -> Option<bool> {
 }
 
 /// Whether a word that isn't given says a machine, or a system with a C library, or before a slash. What runs jobs is no
-/// target, such as `macos-14-large`, nor what has capital letters, as identifiers have.
+/// target, such as `macos-14-large`, nor what has capital letters, as identifiers have, unless it is a triple in capitals.
 fn is_unclear(word: &str) -> bool {
-    if word.len() > LONGEST_PATH || word.bytes().any(|it| it.is_ascii_uppercase()) {
+    if word.len() > LONGEST_PATH || word.bytes().any(|it| it.is_ascii_uppercase()) && !is_in_capitals(word) {
         return false;
     }
     let evidence = Evidence::of(word);
@@ -537,7 +537,13 @@ fn is_unclear(word: &str) -> bool {
     let has_system = || word.contains('/') || is_like_triple(word) || word.split('-').next().map_or(false, is_of_tool);
     let is_said =
         evidence.machine() != Said::Unsaid || evidence.system != Said::Unsaid && (has_library || has_system());
-    is_said && !is_runner && name_of(word).is_none()
+    is_said && !is_runner && (name_of(word).is_none() || is_in_capitals(word))
+}
+
+/// Whether a word is a triple but for its capital letters, with which no tool takes it: `x86_64-Apple-Darwin`.
+pub(crate) fn is_in_capitals(word: &str) -> bool {
+    let lower = Buffer::<LONGEST_PATH>::of_lower(&[word]);
+    word.contains('-') && TripleRef::from_str(word).is_err() && lower.map_or(false, |it| TripleRef::from_str(it.as_str()).is_ok())
 }
 
 /// Whether a word has the parts of a triple, of which one after the first is a known vendor, or the third begins with a

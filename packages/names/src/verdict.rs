@@ -1,5 +1,6 @@
 //! What a check says of a word.
 use crate::meanings::meaning_with;
+use crate::text::is_in_capitals;
 use crate::Suggest as _;
 use crate::{is_vendor_of_rustc, vendor_suggestion, Dialect, Evidence, Meaning, Meant, NameOf, Sense, Word, WordIs};
 use target_lexicon::{OperatingSystem, Refusal, Source, TextPart, TripleRef, VendorRef};
@@ -42,7 +43,8 @@ impl<'a> Word<'a> {
         let is_vendor = |it| VendorRef::from_str(it).map_or(false, |it| !it.is_custom());
         let is_of = || own.map_or(is == WordIs::Unknown, |it| it.vendor.is_custom()) && !text.split('-').any(is_vendor);
         let is_whole = |it: &Sense<'_>| it.level.is_empty() && it.triple.operating_system != OperatingSystem::None_;
-        let of_words = || Evidence::of(text).sense().filter(|it| is_whole(it) && is_of() && self.near().is_none());
+        let may_be = |it: &Sense<'_>| is_whole(it) && is_of() && !is_in_capitals(text) && self.near().is_none();
+        let of_words = || Evidence::of(text).sense().filter(may_be);
         let is_known = own.as_ref().map_or(false, |it| !it.vendor.is_custom());
         // GNU takes any vendor, and versions of the Hurd, as in `i386-gnu0.3`.
         let is_hurd = |it: Sense<'_>| it.triple.operating_system == OperatingSystem::Hurd;
