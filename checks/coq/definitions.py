@@ -267,8 +267,11 @@ class Coq:
     def named(self, d, what, name):
         kind, found = what
         if kind == "constructor":
+            owner, _, variant = found.partition("__")
+            if owner in self.code and variant not in dict(self.code[owner].items):
+                raise Untranslated(f"{owner} has no variant {variant}")
             if found not in CONSTRUCTORS:
-                self.need_constructor(d, found.split("__")[0])
+                self.need_constructor(d, owner)
             return CONSTRUCTORS.get(found, found)
         if kind == "definition":
             return self.need(found)
@@ -352,6 +355,8 @@ class Coq:
         of the argument."""
         go = functools.partial(self.pattern, d, scope=scope, wholes=wholes, used=used, inside=True)
         if self.is_variable(d, it):
+            if it[1][0].isupper() or "__" in it[1]:
+                raise Untranslated(f"a variable {it[1]}, which could be a constructor or a field")
             scope.add(it[1])
             return self.local(it[1])
         if it[:2] == ("op", "∷"):

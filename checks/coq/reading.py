@@ -237,8 +237,10 @@ class Typed:
 
 def parameters_in(text):
     """The parameters before a colon: bracket, name and type of each."""
-    groups = re.findall(r"([({])([\w ]+) : ((?:[^(){}]|\([^()]*\))*)[)}]", text)
-    return [(bracket, name, type) for bracket, names, type in groups for name in names.split()]
+    form = r"([({])([\w ]+) : ((?:[^(){}]|\([^()]*\))*)[)}]"
+    if (left := re.sub(form, "", text).strip()) not in ("", ": Type 0"):
+        raise Untranslated(f"what isn't a parameter: {left}")
+    return [(bracket, name, type) for bracket, names, type in re.findall(form, text) for name in names.split()]
 
 
 class Module:
