@@ -228,7 +228,7 @@ def run(step):
         file.seek(0)
         output = file.read()
     process.returncode = os.waitstatus_to_exitcode(ended[1])
-    status = process.returncode or int("BAD EDIT" in output)  # a must-fail edit that `rt ci` couldn't try, and passes over
+    status = process.returncode or int("BAD EDIT" in output)  # one that must fail, and that `rt ci` couldn't try
     seconds, used = time.monotonic() - begun, (ended[2].ru_utime + ended[2].ru_stime) / 60
     print(f"{command}, after {seconds / 60:.0f} min ({used:.1f} CPU minutes):\n{output}", end="", flush=True)
     left_out.extend(f"within {command}: {line}" for line in output.splitlines() if re.search("left out[:,] ", line))
